@@ -1,0 +1,22 @@
+-- Left and right exchanged.
+use Rattle.machine.specs.declared.positions.Position.{Position}
+use Rattle.machine.specs.declared.positions.Position.the-variants as position
+use Rattle.machine.specs.declared.positions.Drive.{Drive}
+use Rattle.machine.specs.declared.positions.Drive.the-variants as drive
+use Rattle.machine.specs.declared.positions.End.{End}
+use Rattle.machine.specs.declared.positions.End.the-variants as end
+
+abbrev pub opposite-position : Position → Position
+opposite-position position.Left = position.Right
+opposite-position position.Right = position.Left
+opposite-position position.NoEndPosition = position.NoEndPosition
+opposite-position position.Trailed = position.Trailed
+
+abbrev pub opposite-drive : Drive → Drive
+opposite-drive drive.Left = drive.Right
+opposite-drive drive.Right = drive.Left
+opposite-drive drive.Off = drive.Off
+
+abbrev pub opposite-end : End → End
+opposite-end end.Left = end.Right
+opposite-end end.Right = end.Left

@@ -1,0 +1,19 @@
+-- The letter of every position and drive, as its character code.
+-- position-letter  what a detector shows
+-- drive-letter     what a motor is told
+use Prim.Native.Nat.{ℕ}
+use Rattle.machine.specs.declared.positions.Position.{Position}
+use Rattle.machine.specs.declared.positions.Position.the-variants as position
+use Rattle.machine.specs.declared.positions.Drive.{Drive}
+use Rattle.machine.specs.declared.positions.Drive.the-variants as drive
+
+abbrev pub position-letter : Position → ℕ
+position-letter position.Left = 76
+position-letter position.Right = 82
+position-letter position.NoEndPosition = 78
+position-letter position.Trailed = 84
+
+abbrev pub drive-letter : Drive → ℕ
+drive-letter drive.Left = 76
+drive-letter drive.Right = 82
+drive-letter drive.Off = 45

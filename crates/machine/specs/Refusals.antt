@@ -1,0 +1,8 @@
+-- The number of every refusal of a word.
+use Prim.Native.Nat.{ℕ}
+use Rattle.machine.specs.declared.refusals.ReadRefusal.{ReadRefusal}
+use Rattle.machine.specs.declared.refusals.ReadRefusal.the-variants.{MissingLeg, UnreadableWord}
+
+abbrev pub read-refusal-number : ReadRefusal → ℕ
+read-refusal-number MissingLeg = 7
+read-refusal-number UnreadableWord = 8

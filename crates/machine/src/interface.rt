@@ -1,0 +1,60 @@
+// The interface of every machine: all the motors of one point, each with its detector.
+ghost use mathlib.Core.List.{List, map};
+ghost use mathlib.Core.Path.{_≡_};
+ghost use Rattle.machine.specs.Actions.{Action, Driving, Halting, Hearing, Passing, Switching, drive-to, halted, off-at};
+ghost use Rattle.machine.specs.Laws.{Laws};
+ghost use Rattle.machine.specs.Legs.{Leg, frame};
+ghost use Rattle.machine.specs.Places.{count-of, driven-at, read-answer, shown-at};
+ghost use Rattle.std.specs.Vec.{made, refused};
+use crate::positions::Drive;
+use crate::positions::End;
+use crate::positions::Position;
+use crate::refusals::ReadRefusal;
+
+pub trait Machine {
+    // The legs, leg 0 first: what each shows, how it is driven, which words it reads.
+    ghost meaning: { Self → List Leg };
+
+    // The make's own rule: its value before and after each action.
+    ghost does: { Self → Action → Self → Type 0 };
+
+    ghost laws: { Laws meaning does };
+
+    // The number of legs, or 6 where there are six or more.
+    fn count(&self) -> u16
+        ensures { λ r. ⌜ r ≡ count-of (meaning (now (self .entry))) ⌝ };
+
+    // What a leg shows; a missing leg shows no end position.
+    fn show(&self, leg: u16) -> Position
+        ensures { λ r. ⌜ r ≡ shown-at (meaning (now (self .entry))) leg ⌝ };
+
+    // How a leg is driven; a missing leg is off.
+    fn driven(&self, leg: u16) -> Drive
+        ensures { λ r. ⌜ r ≡ driven-at (meaning (now (self .entry))) leg ⌝ };
+
+    // Drives every leg to an end.
+    fn drive(&mut self, end: End)
+        ensures legs { λ _. ⌜ meaning (now (self .exit)) ≡ drive-to end (meaning (now (self .entry))) ⌝ }
+        ensures done { λ _. ⌜ does (now (self .entry)) (Driving end) (now (self .exit)) ⌝ };
+
+    // Switches every leg off.
+    fn halt(&mut self)
+        ensures legs { λ _. ⌜ meaning (now (self .exit)) ≡ halted (meaning (now (self .entry))) ⌝ }
+        ensures done { λ _. ⌜ does (now (self .entry)) Halting (now (self .exit)) ⌝ };
+
+    // Switches one leg off; nothing for a missing leg.
+    fn switch_off(&mut self, leg: u16)
+        ensures legs { λ _. ⌜ meaning (now (self .exit)) ≡ off-at leg (meaning (now (self .entry))) ⌝ }
+        ensures done { λ _. ⌜ does (now (self .entry)) (Switching leg) (now (self .exit)) ⌝ };
+
+    // Gives a word of its detector to a leg. A refusal leaves the machine as it was.
+    fn read(&mut self, leg: u16, word: u16) -> Result<(), ReadRefusal>
+        ensures answer { λ r. ⌜ r ≡ read-answer (meaning (now (self .entry))) leg word ⌝ }
+        ensures done { λ r. ⌜ made r (λ _. does (now (self .entry)) (Hearing leg word) (now (self .exit))) ⌝ }
+        ensures kept { λ r. ⌜ refused r (λ _. now (self .exit) ≡ now (self .entry)) ⌝ };
+
+    // Lets one tick pass.
+    fn pass(&mut self)
+        ensures legs { λ _. ⌜ map frame (meaning (now (self .exit))) ≡ map frame (meaning (now (self .entry))) ⌝ }
+        ensures done { λ _. ⌜ does (now (self .entry)) Passing (now (self .exit)) ⌝ };
+}

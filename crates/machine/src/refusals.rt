@@ -1,0 +1,21 @@
+// Why a machine does not take a word.
+ghost use mathlib.Core.Path.{_≡_};
+ghost use Rattle.machine.specs.Refusals.{read-refusal-number};
+
+#[derive(Clone, Copy, PartialEq, Eq, Debug)]
+pub enum ReadRefusal {
+    MissingLeg,
+    UnreadableWord,
+}
+
+impl ReadRefusal {
+    // The number under which this refusal is told.
+    pub fn number(self) -> u8
+        ensures { λ r. ⌜ r ≡ read-refusal-number self ⌝ }
+    {
+        match self {
+            ReadRefusal::MissingLeg => 7,
+            ReadRefusal::UnreadableWord => 8,
+        }
+    }
+}
