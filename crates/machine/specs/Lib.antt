@@ -7,3 +7,4 @@ pub mod Legs
 pub mod Places
 pub mod Actions
 pub mod Laws
+pub mod Motors

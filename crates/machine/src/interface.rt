@@ -18,7 +18,8 @@ pub trait Machine {
     // The make's own rule: its value before and after each action.
     ghost does: { Self → Action → Self → Type 0 };
 
-    ghost laws: { Laws meaning does };
+    // It has a leg, and no action does more to its legs than is allowed.
+    law kept: { Laws meaning does };
 
     // The number of legs, or 6 where there are six or more.
     fn count(&self) -> u16

@@ -12,7 +12,7 @@ use Rattle.machine.proofs.combined.combined_position.Needs as need
 pub loop-leg-holds : need.loop-leg-holds
 loop-leg-holds g c =
     let m = g .M·Machine .meaning (c .args .machine .now) in
-    c .show-together .ensures ∙ first-shown m (g .M·Machine .laws .some-leg (c .args .machine .now))
+    c .show-together .ensures ∙ first-shown m (g .M·Machine·met .kept .some-leg (c .args .machine .now))
 
 pub loop-leg-again : need.loop-leg-again
 loop-leg-again g c =
@@ -25,7 +25,7 @@ loop-leg-again g c =
 pub returns : need.returns
 returns g c =
     let m = g .M·Machine .meaning (c .args .machine .now) in
-    let some : 0 < length m = g .M·Machine .laws .some-leg (c .args .machine .now) in
+    let some : 0 < length m = g .M·Machine·met .kept .some-leg (c .args .machine .now) in
     let all : c .loop-leg .leg ≡ min (length m) known-legs = omega arith in
     let known : c .loop-leg .together ≡ combined (positions (known-part m)) =
         c .loop-leg .inv ∙ ap (λ part. combined (positions part)) (known-taken m (c .loop-leg .leg) all) in

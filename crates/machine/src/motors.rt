@@ -1,0 +1,87 @@
+// A machine of one leg: one motor with its detector.
+ghost use Prim.Native.Nat.{ℕ};
+ghost use mathlib.Core.Bool.{cond};
+ghost use mathlib.Core.Path.{_≡_};
+ghost use Rattle.machine.specs.declared.positions.Drive.{Drive};
+ghost use Rattle.machine.specs.Legs.{Leg};
+ghost use Rattle.machine.specs.Motors.{MotorLaws, motor-after, motor-legs};
+use crate::interface::Machine;
+use crate::positions::Drive;
+use crate::positions::End;
+use crate::positions::Position;
+use crate::refusals::ReadRefusal;
+
+// What the makes of one leg differ in. Each is a machine by this alone.
+pub trait Motor {
+    // The one leg.
+    ghost leg: { Self → Leg };
+
+    // The value after it was given a drive, after a word that it reads, and after a tick.
+    ghost driven: { Drive → Self → Self };
+
+    ghost heard: { ℕ → Self → Self };
+
+    ghost passed: { Self → Self };
+
+    law kept: { MotorLaws leg driven heard passed };
+
+    fn position(&self) -> Position
+        ensures { λ r. ⌜ r ≡ leg (now (self .entry)) .shows ⌝ };
+
+    fn current_drive(&self) -> Drive
+        ensures { λ r. ⌜ r ≡ leg (now (self .entry)) .driven ⌝ };
+
+    fn set_drive(&mut self, drive: Drive)
+        ensures { λ _. ⌜ now (self .exit) ≡ driven drive (now (self .entry)) ⌝ };
+
+    // Takes a word, or answers false where it is unreadable and keeps all.
+    fn take_word(&mut self, word: u16) -> bool
+        ensures answer { λ r. ⌜ r ≡ leg (now (self .entry)) .reads word ⌝ }
+        ensures after { λ r. ⌜ now (self .exit) ≡ cond r (heard word (now (self .entry))) (now (self .entry)) ⌝ };
+
+    fn pass_tick(&mut self)
+        ensures { λ _. ⌜ now (self .exit) ≡ passed (now (self .entry)) ⌝ };
+}
+
+pub impl<M: Motor> Machine for M as MotorMachine {
+    ghost meaning = { motor-legs (M·Motor .leg) };
+
+    ghost does = { λ x a y. y ≡ motor-after (M·Motor .driven) (M·Motor .heard) (M·Motor .passed) a x };
+
+    fn count(&self) -> u16 {
+        1
+    }
+
+    fn show(&self, leg: u16) -> Position {
+        if leg == 0 { self.position() } else { Position::NoEndPosition }
+    }
+
+    fn driven(&self, leg: u16) -> Drive {
+        if leg == 0 { self.current_drive() } else { Drive::Off }
+    }
+
+    fn drive(&mut self, end: End) {
+        self.set_drive(end.drive());
+    }
+
+    fn halt(&mut self) {
+        self.set_drive(Drive::Off);
+    }
+
+    fn switch_off(&mut self, leg: u16) {
+        if leg == 0 {
+            self.set_drive(Drive::Off);
+        }
+    }
+
+    fn read(&mut self, leg: u16, word: u16) -> Result<(), ReadRefusal> {
+        if leg != 0 {
+            return Err(ReadRefusal::MissingLeg);
+        }
+        if self.take_word(word) { Ok(()) } else { Err(ReadRefusal::UnreadableWord) }
+    }
+
+    fn pass(&mut self) {
+        self.pass_tick();
+    }
+}
