@@ -7,9 +7,9 @@
 use Prim.Native.Nat.{ℕ}
 use mathlib.Core.Path.{_≡_}
 use mathlib.Core.List.{List, map}
-use Rattle.machine.specs.declared.positions.Position.{Position}
-use Rattle.machine.specs.declared.positions.Drive.the-variants.{Off}
-use Rattle.machine.specs.declared.positions.End.{End}
+use Rattle.machine.specs.declared.position.Position.{Position}
+use Rattle.machine.specs.declared.drive.Drive.the-variants.{Off}
+use Rattle.machine.specs.declared.end.End.{End}
 use Rattle.machine.specs.Ends.{drive-towards}
 use Rattle.machine.specs.Legs.{Leg, with-position, with-drive, frame}
 use Rattle.machine.specs.Places.{at-leg}

@@ -6,8 +6,8 @@
 use mathlib.Core.Bool.{Bool, true, false, cond, _&&_, _||_}
 use mathlib.Core.List.{List, [], _∷_}
 use lib.Dec.{eqb}
-use Rattle.machine.specs.declared.positions.Position.{Position}
-use Rattle.machine.specs.declared.positions.Position.the-variants.{Left, Right, NoEndPosition, Trailed}
+use Rattle.machine.specs.declared.position.Position.{Position}
+use Rattle.machine.specs.declared.position.Position.the-variants.{Left, Right, NoEndPosition, Trailed}
 use Rattle.machine.specs.Letters.{position-letter}
 
 abbrev pub same-position : Position → Position → Bool

@@ -1,10 +1,10 @@
 -- Left and right exchanged.
-use Rattle.machine.specs.declared.positions.Position.{Position}
-use Rattle.machine.specs.declared.positions.Position.the-variants as position
-use Rattle.machine.specs.declared.positions.Drive.{Drive}
-use Rattle.machine.specs.declared.positions.Drive.the-variants as drive
-use Rattle.machine.specs.declared.positions.End.{End}
-use Rattle.machine.specs.declared.positions.End.the-variants as end
+use Rattle.machine.specs.declared.position.Position.{Position}
+use Rattle.machine.specs.declared.position.Position.the-variants as position
+use Rattle.machine.specs.declared.drive.Drive.{Drive}
+use Rattle.machine.specs.declared.drive.Drive.the-variants as drive
+use Rattle.machine.specs.declared.end.End.{End}
+use Rattle.machine.specs.declared.end.End.the-variants as end
 
 abbrev pub opposite-position : Position → Position
 opposite-position position.Left = position.Right

@@ -1,11 +1,11 @@
 -- The two ends.
 use mathlib.Core.Bool.{Bool}
 use lib.Dec.{eqb}
-use Rattle.machine.specs.declared.positions.Position.{Position}
-use Rattle.machine.specs.declared.positions.Drive.{Drive}
-use Rattle.machine.specs.declared.positions.Drive.the-variants as drive
-use Rattle.machine.specs.declared.positions.End.{End}
-use Rattle.machine.specs.declared.positions.End.the-variants as end
+use Rattle.machine.specs.declared.position.Position.{Position}
+use Rattle.machine.specs.declared.drive.Drive.{Drive}
+use Rattle.machine.specs.declared.drive.Drive.the-variants as drive
+use Rattle.machine.specs.declared.end.End.{End}
+use Rattle.machine.specs.declared.end.End.the-variants as end
 use Rattle.machine.specs.Letters.{drive-letter, position-letter}
 
 -- the drive that moves a leg to an end

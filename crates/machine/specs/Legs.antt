@@ -7,9 +7,9 @@
 use Prim.Native.Nat.{ℕ}
 use mathlib.Core.Bool.{Bool}
 use mathlib.Core.List.{List, map}
-use Rattle.machine.specs.declared.positions.Position.{Position}
-use Rattle.machine.specs.declared.positions.Position.the-variants.{NoEndPosition}
-use Rattle.machine.specs.declared.positions.Drive.{Drive}
+use Rattle.machine.specs.declared.position.Position.{Position}
+use Rattle.machine.specs.declared.position.Position.the-variants.{NoEndPosition}
+use Rattle.machine.specs.declared.drive.Drive.{Drive}
 
 pub record Leg : Type 0 where
   pub shows : Position

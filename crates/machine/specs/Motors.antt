@@ -7,8 +7,8 @@ use mathlib.Core.Bool.{cond}
 use mathlib.Core.List.{List, [], _∷_}
 use mathlib.Core.Path.{_≡_}
 use lib.Dec.{eqb}
-use Rattle.machine.specs.declared.positions.Drive.{Drive}
-use Rattle.machine.specs.declared.positions.Drive.the-variants.{Off}
+use Rattle.machine.specs.declared.drive.Drive.{Drive}
+use Rattle.machine.specs.declared.drive.Drive.the-variants.{Off}
 use Rattle.machine.specs.Actions.{Action, Driving, Halting, Switching, Hearing, Passing}
 use Rattle.machine.specs.Ends.{drive-towards}
 use Rattle.machine.specs.Legs.{Leg, with-drive, frame}

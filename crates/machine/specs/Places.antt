@@ -17,12 +17,12 @@ use Rattle.std.specs.declared.option.Option.{Option}
 use Rattle.std.specs.declared.option.Option.the-variants.{Some, None}
 use Rattle.std.specs.declared.result.Result.{Result}
 use Rattle.std.specs.declared.result.Result.the-variants.{Ok, Err}
-use Rattle.machine.specs.declared.positions.Position.{Position}
-use Rattle.machine.specs.declared.positions.Position.the-variants.{NoEndPosition}
-use Rattle.machine.specs.declared.positions.Drive.{Drive}
-use Rattle.machine.specs.declared.positions.Drive.the-variants.{Off}
-use Rattle.machine.specs.declared.refusals.ReadRefusal.{ReadRefusal}
-use Rattle.machine.specs.declared.refusals.ReadRefusal.the-variants.{MissingLeg, UnreadableWord}
+use Rattle.machine.specs.declared.position.Position.{Position}
+use Rattle.machine.specs.declared.position.Position.the-variants.{NoEndPosition}
+use Rattle.machine.specs.declared.drive.Drive.{Drive}
+use Rattle.machine.specs.declared.drive.Drive.the-variants.{Off}
+use Rattle.machine.specs.declared.read_refusal.ReadRefusal.{ReadRefusal}
+use Rattle.machine.specs.declared.read_refusal.ReadRefusal.the-variants.{MissingLeg, UnreadableWord}
 use Rattle.machine.specs.Legs.{Leg}
 
 abbrev pub known-legs : ℕ

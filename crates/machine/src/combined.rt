@@ -6,7 +6,7 @@ ghost use Rattle.machine.specs.Combined.{combined};
 ghost use Rattle.machine.specs.Legs.{positions};
 ghost use Rattle.machine.specs.Places.{known-legs, known-part};
 use crate::interface::Machine;
-use crate::positions::Position;
+use crate::position::Position;
 
 // Legs with a higher number than 4 cannot be asked one by one.
 const KNOWN_LEGS: u16 = 5;

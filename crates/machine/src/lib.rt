@@ -1,15 +1,25 @@
 // What a point drives: the words for positions, drives and ends, and the interface of every machine.
 mod combined;
+mod drive;
+mod end;
 mod interface;
-mod motors;
-mod positions;
-mod refusals;
+mod motor;
+mod position;
+mod read_refusal;
 
 pub use combined::combined_position;
 pub use interface::Machine;
-pub use motors::Motor;
-pub use motors::MotorMachine;
-pub use positions::Drive;
-pub use positions::End;
-pub use positions::Position;
-pub use refusals::ReadRefusal;
+pub use motor::Motor;
+pub use motor::MotorMachine;
+pub use drive::Drive;
+pub use drive::DriveDebug;
+pub use drive::DrivePartialEq;
+pub use end::End;
+pub use end::EndDebug;
+pub use end::EndPartialEq;
+pub use position::Position;
+pub use position::PositionDebug;
+pub use position::PositionPartialEq;
+pub use read_refusal::ReadRefusal;
+pub use read_refusal::ReadRefusalDebug;
+pub use read_refusal::ReadRefusalPartialEq;

@@ -2,14 +2,14 @@
 ghost use Prim.Native.Nat.{ℕ};
 ghost use mathlib.Core.Bool.{cond};
 ghost use mathlib.Core.Path.{_≡_};
-ghost use Rattle.machine.specs.declared.positions.Drive.{Drive};
+ghost use Rattle.machine.specs.declared.drive.Drive.{Drive};
 ghost use Rattle.machine.specs.Legs.{Leg};
 ghost use Rattle.machine.specs.Motors.{MotorLaws, motor-after, motor-legs};
 use crate::interface::Machine;
-use crate::positions::Drive;
-use crate::positions::End;
-use crate::positions::Position;
-use crate::refusals::ReadRefusal;
+use crate::drive::Drive;
+use crate::end::End;
+use crate::position::Position;
+use crate::read_refusal::ReadRefusal;
 
 // What the makes of one leg differ in. Each is a machine by this alone.
 pub trait Motor {

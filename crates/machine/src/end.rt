@@ -1,0 +1,33 @@
+// Where a point can be ordered to go.
+ghost use mathlib.Core.Path.{_≡_};
+ghost use Rattle.machine.specs.Crossing.{opposite-end};
+ghost use Rattle.machine.specs.Ends.{drive-towards};
+use crate::drive::Drive;
+
+#[derive(Clone, Copy, PartialEq, Eq, Debug)]
+pub enum End {
+    Left,
+    Right,
+}
+
+impl End {
+    // The drive that moves a leg to this end.
+    pub fn drive(self) -> Drive
+        ensures { λ r. ⌜ r ≡ drive-towards self ⌝ }
+    {
+        match self {
+            End::Left => Drive::Left,
+            End::Right => Drive::Right,
+        }
+    }
+
+    // The end to which a crossed machine drives what is below it.
+    pub fn opposite(self) -> End
+        ensures { λ r. ⌜ r ≡ opposite-end self ⌝ }
+    {
+        match self {
+            End::Left => End::Right,
+            End::Right => End::Left,
+        }
+    }
+}

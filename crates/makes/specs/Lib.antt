@@ -1,0 +1,3 @@
+pub mod Wired
+pub mod Coded
+pub mod Model

@@ -1,0 +1,11 @@
+// The three makes of one leg. Each is a machine by its motor.
+mod coded;
+mod model;
+mod wired;
+
+pub use coded::Coded;
+pub use coded::CodedMotor;
+pub use model::Model;
+pub use model::ModelMotor;
+pub use wired::Wired;
+pub use wired::WiredMotor;

@@ -1,0 +1,71 @@
+// A simulated leg: a tongue that takes a known number of ticks from end to end.
+ghost use mathlib.Core.Path.{_≡_};
+ghost use Rattle.makes.specs.Model.{Sound, model-driven, model-heard, model-leg, model-passed, new-model};
+use machine::Drive;
+use machine::Motor;
+use machine::Position;
+
+const LONGEST_TRAVEL: u16 = 600;
+
+// The tongue is at `place`, 0 at the left end and `travel` at the right one.
+#[derive(Drop)]
+pub struct Model {
+    travel: u16,
+    place: u16,
+    drive: Drive,
+}
+
+impl Model {
+    // At the left end with the drive off. A travel outside 1 to 600 becomes the nearer of the two.
+    pub fn new(travel: u16) -> Model
+        ensures value { λ r. ⌜ r ≡ new-model travel ⌝ }
+    {
+        Model { travel: travel.clamp(1, LONGEST_TRAVEL), place: 0, drive: Drive::Off }
+    }
+}
+
+pub impl Motor for Model as ModelMotor {
+    ghost leg = { model-leg };
+
+    ghost driven = { model-driven };
+
+    ghost heard = { model-heard };
+
+    ghost passed = { model-passed };
+
+    fn position(&self) -> Position {
+        if self.place == 0 {
+            Position::Left
+        } else if self.place == self.travel {
+            Position::Right
+        } else {
+            Position::NoEndPosition
+        }
+    }
+
+    fn current_drive(&self) -> Drive {
+        self.drive
+    }
+
+    fn set_drive(&mut self, drive: Drive) {
+        self.drive = drive;
+    }
+
+    // A word sets the place.
+    fn take_word(&mut self, word: u16) -> bool {
+        if word > self.travel {
+            return false;
+        }
+        self.place = word;
+        true
+    }
+
+    // The tongue moves one place towards the driven end, until it is there.
+    fn pass_tick(&mut self) {
+        match self.drive {
+            Drive::Left if self.place > 0 => self.place -= 1,
+            Drive::Right if self.place < self.travel => self.place += 1,
+            _ => {}
+        }
+    }
+}
