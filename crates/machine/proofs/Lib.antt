@@ -1,2 +1,4 @@
 pub mod Together
 pub mod OneLeg
+pub mod Places
+pub mod Effects

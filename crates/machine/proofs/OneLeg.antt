@@ -1,7 +1,7 @@
 -- A motor keeps the laws of a machine.
 use Prim.Native.Nat.{ℕ, zero, suc}
 use native.Mathlib.Omega.{arith}
-use mathlib.Core.Bool.{Bool, true, false, cond}
+use mathlib.Core.Bool.{false}
 use mathlib.Core.List.{List, [], _∷_}
 use mathlib.Core.Path.{_≡_, refl, ap, _∙_}
 use lib.Dec.{eqb, ltb}
@@ -13,6 +13,7 @@ use Rattle.machine.specs.Ends.{drive-towards}
 use Rattle.machine.specs.Laws.{Laws}
 use Rattle.machine.specs.Legs.{Leg, with-position, with-drive, frame}
 use Rattle.machine.specs.Places.{known-legs, at-leg}
+use Rattle.machine.proofs.Places.{cond-same}
 use Rattle.machine.specs.Motors.{MotorLaws, motor-legs, motor-after}
 
 -- two legs that differ at most in what they show
@@ -22,12 +23,8 @@ from-frame l k e = ap (with-position (l .shows)) e
 not-first : (k : ℕ) → eqb (suc k) 0 ≡ false
 not-first k = ne-eqb (suc k) 0 (λ e. omega arith)
 
-both : {X : Type 0} (b : Bool) (x : X) → cond b x x ≡ x
-both true x = refl
-both false x = refl
-
 no-other : (f : Leg → Leg) (k : ℕ) (l : Leg) → at-leg f (suc k) (l ∷ []) ≡ l ∷ []
-no-other f k l = both (ltb (suc k) known-legs) (l ∷ [])
+no-other f k l = cond-same (ltb (suc k) known-legs) (l ∷ [])
 
 module _ {M : Type 0} {leg : M → Leg} {driven : Drive → M → M} {heard : ℕ → M → M} {passed : M → M} (kept : MotorLaws leg driven heard passed) where
   alone : {l k : Leg} → l ≡ k → l ∷ [] ≡ k ∷ []

@@ -1,4 +1,7 @@
 -- Left and right exchanged.
+-- opposite-position, opposite-drive, opposite-end   each by itself
+-- mirrored                                          a leg, in what it shows and how it is driven
+use Rattle.machine.specs.Legs.{Leg, with-position, with-drive}
 use Rattle.machine.specs.declared.position.Position.{Position}
 use Rattle.machine.specs.declared.position.Position.the-variants as position
 use Rattle.machine.specs.declared.drive.Drive.{Drive}
@@ -20,3 +23,6 @@ opposite-drive drive.Off = drive.Off
 abbrev pub opposite-end : End → End
 opposite-end end.Left = end.Right
 opposite-end end.Right = end.Left
+
+abbrev pub mirrored : Leg → Leg
+mirrored l = with-position (opposite-position (l .shows)) (with-drive (opposite-drive (l .driven)) l)

@@ -1,9 +1,11 @@
 -- What a machine means: the list of its legs, leg 0 first.
 -- Leg            what a leg shows, how it is driven, and which words it reads
+-- leg-of         a leg by these three; nothing else writes one out
 -- with-position  the leg, showing this
 -- with-drive     the leg, driven like this
 -- frame          all of a leg but what it shows
 -- positions      what the legs show, in order
+-- words          what the legs read, in order
 use Prim.Native.Nat.{ℕ}
 use mathlib.Core.Bool.{Bool}
 use mathlib.Core.List.{List, map}
@@ -16,14 +18,20 @@ pub record Leg : Type 0 where
   pub driven : Drive
   pub reads : ℕ → Bool
 
+abbrev pub leg-of : Position → Drive → (ℕ → Bool) → Leg
+leg-of p d r = record { shows = p; driven = d; reads = r }
+
 abbrev pub with-position : Position → Leg → Leg
-with-position p l = record { shows = p; driven = l .driven; reads = l .reads }
+with-position p l = leg-of p (l .driven) (l .reads)
 
 abbrev pub with-drive : Drive → Leg → Leg
-with-drive d l = record { shows = l .shows; driven = d; reads = l .reads }
+with-drive d l = leg-of (l .shows) d (l .reads)
 
 abbrev pub frame : Leg → Leg
 frame l = with-position NoEndPosition l
 
 abbrev pub positions : List Leg → List Position
 positions m = map (λ l. l .shows) m
+
+abbrev pub words : List Leg → List (ℕ → Bool)
+words m = map (λ l. l .reads) m

@@ -5,7 +5,7 @@ ghost use Rattle.machine.specs.Actions.{Action, Driving, Halting, Hearing, Pas
 ghost use Rattle.machine.specs.Laws.{Laws};
 ghost use Rattle.machine.specs.Legs.{Leg, frame};
 ghost use Rattle.machine.specs.Places.{count-of, driven-at, read-answer, shown-at};
-ghost use Rattle.std.specs.Vec.{made, refused};
+ghost use Rattle.std.specs.Results.{Cases};
 use crate::drive::Drive;
 use crate::end::End;
 use crate::position::Position;
@@ -51,8 +51,7 @@ pub trait Machine {
     // Gives a word of its detector to a leg. A refusal leaves the machine as it was.
     fn read(&mut self, leg: u16, word: u16) -> Result<(), ReadRefusal>
         ensures answer { λ r. ⌜ r ≡ read-answer (meaning (now (self .entry))) leg word ⌝ }
-        ensures done { λ r. ⌜ made r (λ _. does (now (self .entry)) (Hearing leg word) (now (self .exit))) ⌝ }
-        ensures kept { λ r. ⌜ refused r (λ _. now (self .exit) ≡ now (self .entry)) ⌝ };
+        ensures done { λ r. ⌜ Cases r (λ _. does (now (self .entry)) (Hearing leg word) (now (self .exit))) (λ _. now (self .exit) ≡ now (self .entry)) ⌝ };
 
     // Lets one tick pass.
     fn pass(&mut self)

@@ -16,7 +16,7 @@ use Rattle.machine.specs.declared.position.Position.{Position}
 use Rattle.machine.specs.declared.position.Position.the-variants.{Left, Right, NoEndPosition, Trailed}
 use Rattle.machine.specs.declared.drive.Drive.{Drive}
 use Rattle.machine.specs.declared.drive.Drive.the-variants.{Off}
-use Rattle.machine.specs.Legs.{Leg}
+use Rattle.machine.specs.Legs.{Leg, leg-of}
 use Rattle.makes.specs.declared.coded.Coded.{Coded}
 
 abbrev pub code-word : ℕ → ℕ
@@ -34,7 +34,7 @@ abbrev pub coded-shows : ℕ → Option Position
 coded-shows w = find-code 0 codes w
 
 abbrev pub coded-leg : Coded → Leg
-coded-leg x = record { shows = x .position; driven = x .drive; reads = λ w. isSome (coded-shows w) }
+coded-leg x = leg-of (x .position) (x .drive) (λ w. isSome (coded-shows w))
 
 abbrev pub new-coded : Coded
 new-coded = record { position = NoEndPosition; drive = Off }

@@ -12,7 +12,7 @@ use Rattle.machine.specs.declared.position.Position.{Position}
 use Rattle.machine.specs.declared.position.Position.the-variants as position
 use Rattle.machine.specs.declared.drive.Drive.{Drive}
 use Rattle.machine.specs.declared.drive.Drive.the-variants.{Left, Right, Off}
-use Rattle.machine.specs.Legs.{Leg}
+use Rattle.machine.specs.Legs.{Leg, leg-of}
 use Rattle.makes.specs.declared.model.Model.{Model}
 
 abbrev pub in-range : ℕ → ℕ → ℕ → ℕ
@@ -27,7 +27,7 @@ place-after Right place travel = cond (ltb place travel) (place + 1) place
 place-after Off place travel = place
 
 abbrev pub model-leg : Model → Leg
-model-leg x = record { shows = place-shows (x .place) (x .travel); driven = x .drive; reads = λ w. leb w (x .travel) }
+model-leg x = leg-of (place-shows (x .place) (x .travel)) (x .drive) (λ w. leb w (x .travel))
 
 abbrev pub new-model : ℕ → Model
 new-model d = record { travel = in-range 1 600 d; place = 0; drive = Off }

@@ -13,7 +13,7 @@ use Rattle.machine.specs.declared.position.Position.{Position}
 use Rattle.machine.specs.declared.position.Position.the-variants.{Left, Right, NoEndPosition, Trailed}
 use Rattle.machine.specs.declared.drive.Drive.{Drive}
 use Rattle.machine.specs.declared.drive.Drive.the-variants.{Off}
-use Rattle.machine.specs.Legs.{Leg}
+use Rattle.machine.specs.Legs.{Leg, leg-of}
 use Rattle.makes.specs.declared.wired.Wired.{Wired}
 
 abbrev pub wired-words : List (Option Position)
@@ -23,7 +23,7 @@ abbrev pub wired-shows : ℕ → Option Position
 wired-shows w = getD wired-words w None
 
 abbrev pub wired-leg : Wired → Leg
-wired-leg x = record { shows = x .position; driven = x .drive; reads = λ w. isSome (wired-shows w) }
+wired-leg x = leg-of (x .position) (x .drive) (λ w. isSome (wired-shows w))
 
 abbrev pub new-wired : Wired
 new-wired = record { position = NoEndPosition; drive = Off }
