@@ -64,5 +64,5 @@ pub crossed-laws : {M : Type 0} {meaning : M → List Leg} {does : M → Action 
 crossed-laws {meaning = meaning} kept =
     record {
       some-leg = λ x. rw length-map (kept .some-leg (x .below));
-      effect = λ x a y h. effect-mirrored a (meaning (x .below)) (meaning (y .below)) (kept .effect (x .below) (crossed-action a) (y .below) h)
+      effect = λ x a y h. effect-mirrored a (meaning (x .below)) (meaning (y .below)) (kept .effect (x .below) (crossed-action a) (y .below) h);
     }

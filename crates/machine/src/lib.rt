@@ -8,15 +8,15 @@ mod position;
 mod read_refusal;
 
 pub use combined::combined_position;
-pub use interface::Machine;
-pub use motor::Motor;
-pub use motor::MotorMachine;
 pub use drive::Drive;
 pub use drive::DriveDebug;
 pub use drive::DrivePartialEq;
 pub use end::End;
 pub use end::EndDebug;
 pub use end::EndPartialEq;
+pub use interface::Machine;
+pub use motor::Motor;
+pub use motor::MotorMachine;
 pub use position::Position;
 pub use position::PositionDebug;
 pub use position::PositionPartialEq;

@@ -5,9 +5,9 @@ ghost use mathlib.Core.Path.{_≡_};
 ghost use Rattle.machine.specs.declared.drive.Drive.{Drive};
 ghost use Rattle.machine.specs.Legs.{Leg};
 ghost use Rattle.machine.specs.Motors.{MotorLaws, motor-after, motor-legs};
-use crate::interface::Machine;
 use crate::drive::Drive;
 use crate::end::End;
+use crate::interface::Machine;
 use crate::position::Position;
 use crate::read_refusal::ReadRefusal;
 
@@ -53,11 +53,19 @@ pub impl<M: Motor> Machine for M as MotorMachine {
     }
 
     fn show(&self, leg: u16) -> Position {
-        if leg == 0 { self.position() } else { Position::NoEndPosition }
+        if leg == 0 {
+            self.position()
+        } else {
+            Position::NoEndPosition
+        }
     }
 
     fn driven(&self, leg: u16) -> Drive {
-        if leg == 0 { self.current_drive() } else { Drive::Off }
+        if leg == 0 {
+            self.current_drive()
+        } else {
+            Drive::Off
+        }
     }
 
     fn drive(&mut self, end: End) {
@@ -78,7 +86,11 @@ pub impl<M: Motor> Machine for M as MotorMachine {
         if leg != 0 {
             return Err(ReadRefusal::MissingLeg);
         }
-        if self.take_word(word) { Ok(()) } else { Err(ReadRefusal::UnreadableWord) }
+        if self.take_word(word) {
+            Ok(())
+        } else {
+            Err(ReadRefusal::UnreadableWord)
+        }
     }
 
     fn pass(&mut self) {

@@ -16,7 +16,10 @@ impl Coded {
     pub fn new() -> Coded
         ensures { λ r. ⌜ r ≡ new-coded ⌝ }
     {
-        Coded { position: Position::NoEndPosition, drive: Drive::Off }
+        Coded {
+            position: Position::NoEndPosition,
+            drive: Drive::Off,
+        }
     }
 }
 

@@ -20,7 +20,11 @@ impl Model {
     pub fn new(travel: u16) -> Model
         ensures value { λ r. ⌜ r ≡ new-model travel ⌝ }
     {
-        Model { travel: travel.clamp(1, LONGEST_TRAVEL), place: 0, drive: Drive::Off }
+        Model {
+            travel: travel.clamp(1, LONGEST_TRAVEL),
+            place: 0,
+            drive: Drive::Off,
+        }
     }
 }
 

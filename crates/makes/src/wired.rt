@@ -17,7 +17,10 @@ impl Wired {
     pub fn new() -> Wired
         ensures { λ r. ⌜ r ≡ new-wired ⌝ }
     {
-        Wired { position: Position::NoEndPosition, drive: Drive::Off }
+        Wired {
+            position: Position::NoEndPosition,
+            drive: Drive::Off,
+        }
     }
 }
 

@@ -28,5 +28,5 @@ returns g c =
     let some : 0 < length m = g .M·Machine·met .kept .some-leg (c .args .machine .now) in
     let all : c .loop-leg .leg ≡ min (length m) known-legs = omega arith in
     let known : c .loop-leg .together ≡ combined (positions (known-part m)) =
-        c .loop-leg .inv ∙ ap (λ part. combined (positions part)) (known-taken m (c .loop-leg .leg) all) in
+    c .loop-leg .inv ∙ ap (λ part. combined (positions part)) (known-taken m (c .loop-leg .leg) all) in
     record { known = known; whole = λ few. known ∙ ap (λ part. combined (positions part)) (take-all known-legs m few) }

@@ -8,5 +8,5 @@ returns g c =
     let after = g .M·Machine .meaning (c .drive .last .self) in
     record {
       legs = effect-mirrored (Driving (c .args .end)) before after (rw (c .opposite .ensures) at (c .drive .ensures .legs));
-      done = rw (c .opposite .ensures) at (c .drive .ensures .done)
+      done = rw (c .opposite .ensures) at (c .drive .ensures .done);
     }

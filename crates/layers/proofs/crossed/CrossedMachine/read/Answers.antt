@@ -9,5 +9,5 @@ returns g c =
     let m = g .M·Machine .meaning (c .args .self .now .below) in
     record {
       answer = c .read .ensures .answer ∙ sym (answer-mirrored m (c .args .leg) (c .args .word));
-      done = cases-weaker (c .read .result) (c .read .ensures .done) (λ _ h. h) (λ _ same. ap crossed same)
+      done = cases-weaker (c .read .result) (c .read .ensures .done) (λ _ h. h) (λ _ same. ap crossed same);
     }
