@@ -1,18 +1,24 @@
 -- The two ends.
+-- drive-towards  the drive that moves a leg to an end
+-- position-at    what a leg shows at an end
+-- reached        whether a leg is where it is driven: the two letters are the same
 use mathlib.Core.Bool.{Bool}
 use lib.Dec.{eqb}
 use Rattle.machine.specs.declared.position.Position.{Position}
+use Rattle.machine.specs.declared.position.Position.the-variants as position
 use Rattle.machine.specs.declared.drive.Drive.{Drive}
 use Rattle.machine.specs.declared.drive.Drive.the-variants as drive
 use Rattle.machine.specs.declared.end.End.{End}
 use Rattle.machine.specs.declared.end.End.the-variants as end
 use Rattle.machine.specs.Letters.{drive-letter, position-letter}
 
--- the drive that moves a leg to an end
 abbrev pub drive-towards : End → Drive
 drive-towards end.Left = drive.Left
 drive-towards end.Right = drive.Right
 
--- a leg has reached the end that it is driven to where the two letters are the same
+abbrev pub position-at : End → Position
+position-at end.Left = position.Left
+position-at end.Right = position.Right
+
 abbrev pub reached : Drive → Position → Bool
 reached d p = eqb (drive-letter d) (position-letter p)

@@ -1,8 +1,9 @@
 // Where a point can be ordered to go.
 ghost use mathlib.Core.Path.{_≡_};
 ghost use Rattle.machine.specs.Crossing.{opposite-end};
-ghost use Rattle.machine.specs.Ends.{drive-towards};
+ghost use Rattle.machine.specs.Ends.{drive-towards, position-at};
 use crate::drive::Drive;
+use crate::position::Position;
 
 #[derive(Clone, Copy, PartialEq, Eq, Debug)]
 pub enum End {
@@ -18,6 +19,16 @@ impl End {
         match self {
             End::Left => Drive::Left,
             End::Right => Drive::Right,
+        }
+    }
+
+    // What a leg shows at this end.
+    pub fn position(self) -> Position
+        ensures { λ r. ⌜ r ≡ position-at self ⌝ }
+    {
+        match self {
+            End::Left => Position::Left,
+            End::Right => Position::Right,
         }
     }
 
