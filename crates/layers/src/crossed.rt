@@ -18,6 +18,14 @@ impl<M> Crossed<M> {
     {
         Crossed { below }
     }
+
+    // The machine below again, as it is now.
+    pub fn into_below(self) -> M
+        ensures { λ r. ⌜ self ≡ crossed r ⌝ }
+    {
+        let Crossed { below } = self;
+        below
+    }
 }
 
 pub impl<M: Machine> Machine for Crossed<M> as CrossedMachine {

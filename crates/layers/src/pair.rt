@@ -25,6 +25,14 @@ impl<A, B> Pair<A, B> {
     {
         Pair { first, second }
     }
+
+    // The two machines again, as they are now.
+    pub fn into_parts(self) -> (A, B)
+        ensures { λ r. ⌜ self ≡ pair (r .0) (r .1) ⌝ }
+    {
+        let Pair { first, second } = self;
+        (first, second)
+    }
 }
 
 // Where a leg of a pair is, with its number there.

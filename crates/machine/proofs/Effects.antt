@@ -3,6 +3,7 @@ use mathlib.Core.Bool.{Bool}
 use mathlib.Core.List.{List, map, map-map}
 use mathlib.Core.Path.{_≡_, refl, sym, ap, _∙_}
 use Prim.Native.Nat.{ℕ}
+use lib.ListN.{length, length-map}
 use Rattle.machine.specs.declared.drive.Drive.the-variants.{Off}
 use Rattle.machine.specs.Actions.{Action, Driving, Halting, Switching, Hearing, Passing, drive-leg, Effect}
 use Rattle.machine.specs.Legs.{Leg, words, frame, with-position, with-drive}
@@ -18,3 +19,8 @@ effect-words Halting m n h = rw h (map-map read-by (with-drive Off) m)
 effect-words (Switching k) m n h = rw h (at-leg-keeps read-by (with-drive Off) (λ l. refl) k m)
 effect-words (Hearing k w) m n h = rw (h .1) (at-leg-keeps read-by (with-position (h .0)) (λ l. refl) k m)
 effect-words Passing m n h = sym (map-map read-by frame n) ∙ ap (map read-by) h ∙ map-map read-by frame m
+
+pub effect-length : (a : Action) (m n : List Leg) → Effect a m n → length n ≡ length m
+effect-length a m n h =
+    let same : length (words n) ≡ length (words m) = ap length (effect-words a m n h) in
+    sym (length-map n read-by) ∙ same ∙ length-map m read-by

@@ -4,7 +4,6 @@
 -- place-after   one place towards the driven end, until it is there
 -- model-leg     its leg: words up to the travel are places
 -- new-model     how it starts; then its value after a drive, a word and a tick
--- Sound         the travel is 1 to 600 and the place lies within it
 use Prim.Native.Nat.{ℕ, _+_, _-_, _≤_, min, max}
 use mathlib.Core.Bool.{cond}
 use lib.Dec.{eqb, leb, ltb}
@@ -40,8 +39,3 @@ model-heard w x = record { travel = x .travel; place = cond (leb w (x .travel)) 
 
 abbrev pub model-passed : Model → Model
 model-passed x = record { travel = x .travel; place = place-after (x .drive) (x .place) (x .travel); drive = x .drive }
-
-pub record Sound (x : Model) : Type 0 where
-  pub shortest : 1 ≤ x .travel
-  pub longest : x .travel ≤ 600
-  pub within : x .place ≤ x .travel

@@ -7,5 +7,7 @@ pub use coded::Coded;
 pub use coded::CodedMotor;
 pub use model::Model;
 pub use model::ModelMotor;
+pub use model::model_arrives;
+pub use model::model_stays_sound;
 pub use wired::Wired;
 pub use wired::WiredMotor;

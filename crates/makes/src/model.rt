@@ -1,6 +1,7 @@
 // A simulated leg: a tongue that takes a known number of ticks from end to end.
 ghost use mathlib.Core.Path.{_≡_};
-ghost use Rattle.makes.specs.Model.{Sound, model-driven, model-heard, model-leg, model-passed, new-model};
+ghost use Rattle.makes.specs.Throws.{Arrives, Stays-sound};
+ghost use Rattle.makes.specs.Model.{model-driven, model-heard, model-leg, model-passed, new-model};
 use machine::Drive;
 use machine::Motor;
 use machine::Position;
@@ -18,7 +19,7 @@ pub struct Model {
 impl Model {
     // At the left end with the drive off. A travel outside 1 to 600 becomes the nearer of the two.
     pub fn new(travel: u16) -> Model
-        ensures value { λ r. ⌜ r ≡ new-model travel ⌝ }
+        ensures { λ r. ⌜ r ≡ new-model travel ⌝ }
     {
         Model {
             travel: travel.clamp(1, LONGEST_TRAVEL),
@@ -73,3 +74,13 @@ pub impl Motor for Model as ModelMotor {
         }
     }
 }
+
+// A model never leaves its range.
+pub fn model_stays_sound()
+    ensures { λ _. ⌜ Stays-sound ⌝ }
+{}
+
+// A model reaches an end on the very tick that the way to it needs.
+pub fn model_arrives()
+    ensures { λ _. ⌜ Arrives ⌝ }
+{}
