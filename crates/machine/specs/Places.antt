@@ -1,7 +1,7 @@
 -- Legs by their numbers. Callers know legs 0 to 4: any other number is a missing leg.
 -- known-legs   how many legs have a number that callers can use
 -- known-part   those legs
--- count-of     the number of legs, or 6 where there are six or more
+-- count-of     how many legs there are, but never more than 6
 -- leg-at       the leg with this number, or none if it is missing
 -- shown-at     what it shows; a missing leg shows no end position
 -- driven-at    how it is driven; a missing leg is off

@@ -21,7 +21,7 @@ pub trait Machine {
     // It has a leg, and no action does more to its legs than is allowed.
     law kept: { Laws meaning does };
 
-    // The number of legs, or 6 where there are six or more.
+    // How many legs there are, but never more than 6.
     fn count(&self) -> u16
         ensures { λ r. ⌜ r ≡ count-of (meaning (now (self .entry))) ⌝ };
 

@@ -78,7 +78,7 @@ pub impl<M: Motor> Machine for M as MotorMachine {
 
     fn switch_off(&mut self, leg: u16) {
         if leg == 0 {
-            self.set_drive(Drive::Off);
+            self.halt();
         }
     }
 

@@ -8,8 +8,9 @@ use machine::PositionDebug;
 use machine::PositionPartialEq;
 use machine::ReadRefusalDebug;
 use machine::combined_position;
+use makes::DetectedMotor;
 use makes::Wired;
-use makes::WiredMotor;
+use makes::WiredDecoder;
 use std::test::*;
 
 // The words of the legs, and what they show together.

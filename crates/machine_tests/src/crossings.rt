@@ -16,10 +16,11 @@ use machine::MotorMachine;
 use machine::Position;
 use machine::PositionDebug;
 use machine::PositionPartialEq;
+use makes::DetectedMotor;
 use makes::Model;
 use makes::ModelMotor;
 use makes::Wired;
-use makes::WiredMotor;
+use makes::WiredDecoder;
 use std::test::*;
 
 #[test]

@@ -12,9 +12,10 @@ use machine::PositionDebug;
 use machine::PositionPartialEq;
 use machine::ReadRefusal;
 use makes::Coded;
-use makes::CodedMotor;
+use makes::CodedDecoder;
+use makes::DetectedMotor;
 use makes::Wired;
-use makes::WiredMotor;
+use makes::WiredDecoder;
 use std::test::*;
 
 #[test]

@@ -1,3 +1,4 @@
+pub mod Detected
 pub mod Wired
 pub mod Coded
 pub mod Model

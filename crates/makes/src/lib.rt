@@ -1,13 +1,19 @@
 // The three makes of one leg. Each is a machine by its motor.
 mod coded;
+mod detected;
 mod model;
 mod wired;
 
 pub use coded::Coded;
-pub use coded::CodedMotor;
+pub use coded::CodedDecoder;
+pub use coded::CodedWords;
+pub use detected::Decoder;
+pub use detected::Detected;
+pub use detected::DetectedMotor;
 pub use model::Model;
 pub use model::ModelMotor;
 pub use model::model_arrives;
 pub use model::model_stays_sound;
 pub use wired::Wired;
-pub use wired::WiredMotor;
+pub use wired::WiredDecoder;
+pub use wired::WiredWords;
