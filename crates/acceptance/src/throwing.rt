@@ -1,4 +1,6 @@
 // One throw: all legs driven to an end, each switched off as it arrives, until all are there or the time is over.
+ghost use Rattle.acceptance.specs.Throwing.{Ended};
+ghost use Rattle.std.specs.Vec.{made};
 use crate::judging::stop_legs;
 use crate::printing::print_command;
 use crate::printing::print_legs;
@@ -20,7 +22,9 @@ pub enum Outcome {
     TimedOut,
 }
 
-pub fn throw<M: Machine>(rt: &impl Print, machine: &mut M, end: End) -> io::Result<Outcome> {
+pub fn throw<M: Machine>(rt: &impl Print, machine: &mut M, end: End) -> io::Result<Outcome>
+    ensures { λ r. ⌜ made r (λ outcome. Ended end outcome (meaning (now (machine .exit)))) ⌝ }
+{
     machine.drive(end);
     print_command(rt, end)?;
     print_legs(rt, machine)?;
@@ -29,7 +33,9 @@ pub fn throw<M: Machine>(rt: &impl Print, machine: &mut M, end: End) -> io::Resu
     Ok(outcome)
 }
 
-fn run_ticks<M: Machine>(rt: &impl Print, machine: &mut M, end: End) -> io::Result<Outcome> {
+fn run_ticks<M: Machine>(rt: &impl Print, machine: &mut M, end: End) -> io::Result<Outcome>
+    ensures { λ r. ⌜ made r (λ outcome. Ended end outcome (meaning (now (machine .exit)))) ⌝ }
+{
     for tick in 1..=LIMIT {
         machine.pass();
         let stopped = stop_legs(machine);

@@ -50,15 +50,26 @@ drive-mirrored : (e : End) (l : Leg) → mirrored (drive-leg (opposite-end e) l)
 drive-mirrored Left l = refl
 drive-mirrored Right l = refl
 
+pub drive-to-mirrored : (e : End) (m : List Leg) → map mirrored (drive-to (opposite-end e) m) ≡ drive-to e (map mirrored m)
+drive-to-mirrored e m = map-swap mirrored (drive-leg (opposite-end e)) (drive-leg e) (drive-mirrored e) m
+
+pub halted-mirrored : (m : List Leg) → map mirrored (halted m) ≡ halted (map mirrored m)
+halted-mirrored m = map-swap mirrored (with-drive Off) (with-drive Off) (λ l. refl) m
+
+pub off-at-mirrored : (k : ℕ) (m : List Leg) → map mirrored (off-at k m) ≡ off-at k (map mirrored m)
+off-at-mirrored k m = at-leg-map mirrored (with-drive Off) (with-drive Off) (λ l. refl) k m
+
+pub frame-mirrored : (m : List Leg) → map frame (map mirrored m) ≡ map mirrored (map frame m)
+frame-mirrored m = map-swap frame mirrored mirrored (λ l. refl) m
+
 -- an effect below, seen crossed
-pub effect-mirrored : (a : Action) (m n : List Leg) → Effect (crossed-action a) m n → Effect a (map mirrored m) (map mirrored n)
-effect-mirrored (Driving e) m n h = rw h (map-swap mirrored (drive-leg (opposite-end e)) (drive-leg e) (drive-mirrored e) m)
-effect-mirrored Halting m n h = rw h (map-swap mirrored (with-drive Off) (with-drive Off) (λ l. refl) m)
-effect-mirrored (Switching k) m n h = rw h (at-leg-map mirrored (with-drive Off) (with-drive Off) (λ l. refl) k m)
+effect-mirrored : (a : Action) (m n : List Leg) → Effect (crossed-action a) m n → Effect a (map mirrored m) (map mirrored n)
+effect-mirrored (Driving e) m n h = rw h (drive-to-mirrored e m)
+effect-mirrored Halting m n h = rw h (halted-mirrored m)
+effect-mirrored (Switching k) m n h = rw h (off-at-mirrored k m)
 effect-mirrored (Hearing k w) m n h =
     (opposite-position (h .0), rw (h .1) (at-leg-map mirrored (with-position (h .0)) (with-position (opposite-position (h .0))) (λ l. refl) k m))
-effect-mirrored Passing m n h =
-    map-swap frame mirrored mirrored (λ l. refl) n ∙ ap (map mirrored) h ∙ sym (map-swap frame mirrored mirrored (λ l. refl) m)
+effect-mirrored Passing m n h = frame-mirrored n ∙ ap (map mirrored) h ∙ sym (frame-mirrored m)
 
 pub crossed-laws : {M : Type 0} {meaning : M → List Leg} {does : M → Action → M → Type 0} → Laws meaning does → Laws (crossed-legs meaning) (crossed-does does)
 crossed-laws {meaning = meaning} kept =

@@ -76,12 +76,19 @@ change-by-part f m n k =
           rw (part-behind m k h i, lt-ltb k known-legs h, lt-ltb (k - length m) known-legs near) (at-place-back f m n k i)
     ]
 
--- the part that the code found, by the count that the first part gave
+-- the part that was found for a leg, by the count that the first part gave
 pub found-part : (m : List Leg) (count k : ℕ) (p : Part) → count ≡ count-of m → p ≡ part-of count k → part-of (count-of m) k ≡ p
 found-part m count k p e f = sym (f ∙ ap (λ n. part-of n k) e)
 
-pub found-leg : (m n : List Leg) (count k : ℕ) (p : Part) → count ≡ count-of m → p ≡ part-of count k → leg-in p m n ≡ leg-at (m ++ n) k
+found-leg : (m n : List Leg) (count k : ℕ) (p : Part) → count ≡ count-of m → p ≡ part-of count k → leg-in p m n ≡ leg-at (m ++ n) k
 found-leg m n count k p e f = sym (leg-by-part m n k ∙ ap (λ q. leg-in q m n) (found-part m count k p e f))
+
+-- what is answered of that leg is answered of the leg of the pair
+pub from-first : {X : Type 0} (answer : Option Leg → X) (m n : List Leg) (count k j : ℕ) (r : X) → r ≡ answer (leg-at m j) → count ≡ count-of m → First j ≡ part-of count k → r ≡ answer (leg-at (m ++ n) k)
+from-first answer m n count k j r h e f = h ∙ ap answer (found-leg m n count k (First j) e f)
+
+pub from-second : {X : Type 0} (answer : Option Leg → X) (m n : List Leg) (count k j : ℕ) (r : X) → r ≡ answer (leg-at n j) → count ≡ count-of m → Second j ≡ part-of count k → r ≡ answer (leg-at (m ++ n) k)
+from-second answer m n count k j r h e f = h ∙ ap answer (found-leg m n count k (Second j) e f)
 
 pub count-both : (m n : List Leg) → min (count-of m + count-of n) 6 ≡ count-of (m ++ n)
 count-both m n = rw length-append (omega arith)

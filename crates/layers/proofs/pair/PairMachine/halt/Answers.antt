@@ -1,11 +1,6 @@
-use Rattle.machine.specs.Actions.{Halting}
-use Rattle.layers.specs.Pair.{pair, pair-does}
-use Rattle.layers.proofs.Parts.{pair-effect}
+use borrow.Author.Needs.{needs}
+use Rattle.std.proofs.shelf.Lists.{map-append}
 use Rattle.layers.proofs.pair.PairMachine.halt.Needs as need
 
 pub returns : need.returns
-returns g c =
-    let after = pair (c .halt .last .self) (c .halt-2 .last .self) in
-    let done : pair-does (g .A·Machine .meaning) (g .A·Machine .does) (g .B·Machine .does) (c .args .self .now) Halting after =
-    (c .halt .ensures .done, c .halt-2 .ensures .done) in
-    record { legs = pair-effect (g .A·Machine·met .kept) (g .B·Machine·met .kept) (c .args .self .now) Halting after done; done = done }
+returns g c = search (needs, map-append)

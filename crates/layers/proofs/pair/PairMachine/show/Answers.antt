@@ -1,17 +1,10 @@
-use mathlib.Core.Path.{ap, _∙_}
+use borrow.Author.Needs.{needs}
 use Rattle.machine.specs.Places.{shown-of}
-use Rattle.layers.specs.declared.pair.Part.the-variants.{First, Second}
-use Rattle.layers.proofs.Parts.{found-leg}
+use Rattle.layers.proofs.Parts.{from-first, from-second}
 use Rattle.layers.proofs.pair.PairMachine.show.Needs as need
 
 pub returns-in-First : need.returns-in-First
-returns-in-First g c =
-    let m = g .A·Machine .meaning (c .args .self .now .first) in
-    let n = g .B·Machine .meaning (c .args .self .now .second) in
-    c .show .ensures ∙ ap shown-of (found-leg m n (c .count .result) (c .args .leg) (First (c .in-First .leg)) (c .count .ensures) (c .in-First .ensures tt))
+returns-in-First g c = search (needs, from-first shown-of, c .in-First .ensures)
 
 pub returns-in-Second : need.returns-in-Second
-returns-in-Second g c =
-    let m = g .A·Machine .meaning (c .args .self .now .first) in
-    let n = g .B·Machine .meaning (c .args .self .now .second) in
-    c .show-in-Second .ensures ∙ ap shown-of (found-leg m n (c .count .result) (c .args .leg) (Second (c .in-Second .leg)) (c .count .ensures) (c .in-Second .ensures tt))
+returns-in-Second g c = search (needs, from-second shown-of, c .in-Second .ensures)
