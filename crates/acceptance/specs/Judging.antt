@@ -7,9 +7,9 @@ use Prim.Native.Nat.{ℕ, zero, suc, _<_}
 use mathlib.Core.Bool.{Bool, cond}
 use mathlib.Core.List.{List}
 use mathlib.Core.Path.{_≡_}
-use Rattle.machine.specs.declared.drive.Drive.the-variants.{Off}
+use Rattle.legs.specs.declared.drive.Drive.the-variants.{Off}
 use Rattle.machine.specs.Actions.{off-at}
-use Rattle.machine.specs.Ends.{reached}
+use Rattle.legs.specs.Ends.{reached}
 use Rattle.machine.specs.Legs.{Leg}
 use Rattle.machine.specs.Places.{known-legs, driven-at, shown-at}
 

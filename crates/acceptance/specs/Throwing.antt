@@ -3,10 +3,10 @@
 use Prim.Native.Nat.{_≤_}
 use mathlib.Core.List.{List}
 use mathlib.Core.Path.{_≡_}
-use Rattle.machine.specs.declared.end.End.{End}
+use Rattle.legs.specs.declared.end.End.{End}
 use Rattle.machine.specs.Actions.{halted}
-use Rattle.machine.specs.Combined.{combined}
-use Rattle.machine.specs.Ends.{position-at}
+use Rattle.legs.specs.Combined.{combined}
+use Rattle.legs.specs.Ends.{position-at}
 use Rattle.machine.specs.Legs.{Leg, positions}
 use Rattle.machine.specs.Places.{known-part}
 use Rattle.acceptance.specs.declared.throwing.Outcome.{Outcome}

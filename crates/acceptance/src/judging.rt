@@ -2,8 +2,8 @@
 ghost use mathlib.Core.Path.{_≡_};
 ghost use Rattle.acceptance.specs.Judging.{All-off, arrived-at, stop-at, stop-below};
 ghost use Rattle.std.specs.Orderings.{Decides};
-use machine::Drive;
-use machine::DrivePartialEq;
+use legs::Drive;
+use legs::DrivePartialEq;
 use machine::Machine;
 
 // The rig has this many.

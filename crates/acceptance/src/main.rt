@@ -6,7 +6,7 @@ mod throwing;
 
 use layers::CrossedMachine;
 use layers::PairMachine;
-use machine::End;
+use legs::End;
 use machine::MotorMachine;
 use makes::ModelMotor;
 use printing::print_heading;

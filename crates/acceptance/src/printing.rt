@@ -4,7 +4,7 @@ use crate::judging::all_off;
 use crate::throwing::LIMIT;
 use crate::throwing::Outcome;
 use crate::throwing::OutcomePartialEq;
-use machine::End;
+use legs::End;
 use machine::Machine;
 use machine::combined_position;
 use std::io;

@@ -6,9 +6,9 @@ use crate::printing::print_command;
 use crate::printing::print_legs;
 use crate::printing::print_outcome;
 use crate::printing::print_tick;
-use machine::End;
+use legs::End;
+use legs::PositionPartialEq;
 use machine::Machine;
-use machine::PositionPartialEq;
 use machine::combined_position;
 use std::io;
 

@@ -6,13 +6,13 @@ use lib.ListN.{length, length-map}
 use Rattle.std.specs.Options.{mapped}
 use Rattle.std.specs.declared.option.Option.{Option}
 use Rattle.std.specs.declared.option.Option.the-variants.{Some, None}
-use Rattle.machine.specs.declared.drive.Drive.the-variants.{Off}
-use Rattle.machine.specs.declared.end.End.{End}
-use Rattle.machine.specs.declared.end.End.the-variants.{Left, Right}
+use Rattle.legs.specs.declared.drive.Drive.the-variants.{Off}
+use Rattle.legs.specs.declared.end.End.{End}
+use Rattle.legs.specs.declared.end.End.the-variants.{Left, Right}
 use Rattle.machine.specs.Actions.{Action, Driving, Halting, Switching, Hearing, Passing, Effect, drive-leg, drive-to, halted, off-at}
-use Rattle.machine.specs.Crossing.{mirrored, opposite-position, opposite-drive, opposite-end}
+use Rattle.legs.specs.Crossing.{opposite-position, opposite-drive, opposite-end}
 use Rattle.machine.specs.Laws.{Laws}
-use Rattle.machine.specs.Legs.{Leg, with-position, with-drive, frame}
+use Rattle.machine.specs.Legs.{Leg, with-position, with-drive, frame, mirrored}
 use Rattle.machine.specs.Places.{count-of, leg-at, shown-of, driven-of, answer-of, shown-at, driven-at, read-answer}
 use Rattle.machine.proofs.Places.{leg-at-map, at-leg-map}
 use Rattle.layers.specs.Crossed.{crossed-legs, crossed-action, crossed-does}

@@ -12,14 +12,14 @@ use Rattle.std.specs.declared.option.Option.{Option}
 use Rattle.std.specs.declared.option.Option.the-variants.{None}
 use Rattle.std.proofs.shelf.Lists.{map-append}
 use Rattle.std.proofs.shelf.Tests.{cases-lt, lt-ltb, le-ltb}
-use Rattle.machine.specs.declared.drive.Drive.the-variants.{Off}
+use Rattle.legs.specs.declared.drive.Drive.the-variants.{Off}
 use Rattle.machine.specs.Actions.{Action, Driving, Halting, Switching, Hearing, Passing, Effect, drive-leg}
 use Rattle.machine.specs.Laws.{Laws}
 use Rattle.machine.specs.Legs.{Leg, with-position, with-drive, frame}
 use Rattle.machine.specs.Places.{count-of, known-legs, leg-at, at-leg}
 use Rattle.machine.proofs.Places.{nth-front, nth-back, at-place-front, at-place-back}
-use Rattle.machine.specs.declared.position.Position.{Position}
-use Rattle.machine.specs.declared.position.Position.the-variants.{NoEndPosition}
+use Rattle.legs.specs.declared.position.Position.{Position}
+use Rattle.legs.specs.declared.position.Position.the-variants.{NoEndPosition}
 use Rattle.layers.specs.declared.pair.Pair.{Pair}
 use Rattle.layers.specs.declared.pair.Part.{Part}
 use Rattle.layers.specs.declared.pair.Part.the-variants.{First, Second, Missing}

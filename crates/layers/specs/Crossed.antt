@@ -5,8 +5,8 @@
 -- crossed-does    its own rule: the one below, at that action
 use mathlib.Core.List.{List, map}
 use Rattle.machine.specs.Actions.{Action, Driving, Halting, Switching, Hearing, Passing}
-use Rattle.machine.specs.Crossing.{mirrored, opposite-end}
-use Rattle.machine.specs.Legs.{Leg}
+use Rattle.legs.specs.Crossing.{opposite-end}
+use Rattle.machine.specs.Legs.{Leg, mirrored}
 use Rattle.layers.specs.declared.crossed.Crossed.{Crossed}
 
 abbrev pub crossed : {M : Type 0} → M → Crossed M

@@ -1,11 +1,11 @@
 // A machine mounted the other way round: left and right are exchanged in what it shows and in how it is driven.
 ghost use mathlib.Core.Path.{_≡_};
 ghost use Rattle.layers.specs.Crossed.{crossed, crossed-does, crossed-legs};
-use machine::Drive;
-use machine::End;
+use legs::Drive;
+use legs::End;
+use legs::Position;
+use legs::ReadRefusal;
 use machine::Machine;
-use machine::Position;
-use machine::ReadRefusal;
 
 #[derive(Drop)]
 pub struct Crossed<M> {

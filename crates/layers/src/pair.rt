@@ -1,11 +1,11 @@
 // Two machines as one: the legs of the first, then those of the second.
 ghost use mathlib.Core.Path.{_≡_};
 ghost use Rattle.layers.specs.Pair.{pair, pair-does, pair-legs, part-of};
-use machine::Drive;
-use machine::End;
+use legs::Drive;
+use legs::End;
+use legs::Position;
+use legs::ReadRefusal;
 use machine::Machine;
-use machine::Position;
-use machine::ReadRefusal;
 
 // No leg with a higher number can be asked for.
 const HIGHEST_LEG: u16 = 4;

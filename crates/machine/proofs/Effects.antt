@@ -4,7 +4,7 @@ use mathlib.Core.List.{List, map, map-map}
 use mathlib.Core.Path.{_≡_, refl, sym, ap, _∙_}
 use Prim.Native.Nat.{ℕ}
 use lib.ListN.{length, length-map}
-use Rattle.machine.specs.declared.drive.Drive.the-variants.{Off}
+use Rattle.legs.specs.declared.drive.Drive.the-variants.{Off}
 use Rattle.machine.specs.Actions.{Action, Driving, Halting, Switching, Hearing, Passing, drive-leg, Effect}
 use Rattle.machine.specs.Legs.{Leg, words, frame, with-position, with-drive}
 use Rattle.machine.proofs.Places.{at-leg-keeps}

@@ -6,10 +6,10 @@ use mathlib.Core.List.{List, [], _∷_}
 use mathlib.Core.Path.{_≡_, refl, ap, _∙_}
 use lib.Dec.{eqb, ltb}
 use Rattle.std.proofs.shelf.Tests.{ne-eqb}
-use Rattle.machine.specs.declared.drive.Drive.{Drive}
-use Rattle.machine.specs.declared.drive.Drive.the-variants.{Off}
+use Rattle.legs.specs.declared.drive.Drive.{Drive}
+use Rattle.legs.specs.declared.drive.Drive.the-variants.{Off}
 use Rattle.machine.specs.Actions.{Action, Driving, Halting, Switching, Hearing, Passing, Effect}
-use Rattle.machine.specs.Ends.{drive-towards}
+use Rattle.legs.specs.Ends.{drive-towards}
 use Rattle.machine.specs.Laws.{Laws}
 use Rattle.machine.specs.Legs.{Leg, with-position, with-drive, frame}
 use Rattle.machine.specs.Places.{known-legs, at-leg}

@@ -11,11 +11,11 @@ use Rattle.std.proofs.shelf.Lists.{map-more, take-all}
 use Rattle.std.proofs.shelf.Maps.{nth-getD}
 use Rattle.std.proofs.shelf.Tests.{lt-ltb, cases-lt}
 use Rattle.std.specs.declared.option.Option.the-variants.{Some}
-use Rattle.machine.specs.declared.position.Position.{Position}
-use Rattle.machine.specs.declared.position.Position.the-variants.{Left, Right, NoEndPosition, Trailed}
+use Rattle.legs.specs.declared.position.Position.{Position}
+use Rattle.legs.specs.declared.position.Position.the-variants.{Left, Right, NoEndPosition, Trailed}
 use Rattle.machine.specs.Legs.{Leg, positions}
 use Rattle.machine.specs.Places.{known-legs, known-part, leg-at, shown-at, shown-of}
-use Rattle.machine.specs.Combined.{same-position, all-show, some-show, combined, joined}
+use Rattle.legs.specs.Combined.{same-position, all-show, some-show, combined, joined}
 
 data Group : Bool → Bool → Bool → Type 0 where
   all-left : Group true false false

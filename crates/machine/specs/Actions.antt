@@ -7,10 +7,10 @@
 use Prim.Native.Nat.{ℕ}
 use mathlib.Core.Path.{_≡_}
 use mathlib.Core.List.{List, map}
-use Rattle.machine.specs.declared.position.Position.{Position}
-use Rattle.machine.specs.declared.drive.Drive.the-variants.{Off}
-use Rattle.machine.specs.declared.end.End.{End}
-use Rattle.machine.specs.Ends.{drive-towards}
+use Rattle.legs.specs.declared.position.Position.{Position}
+use Rattle.legs.specs.declared.drive.Drive.the-variants.{Off}
+use Rattle.legs.specs.declared.end.End.{End}
+use Rattle.legs.specs.Ends.{drive-towards}
 use Rattle.machine.specs.Legs.{Leg, with-position, with-drive, frame}
 use Rattle.machine.specs.Places.{at-leg}
 

@@ -4,14 +4,16 @@
 -- with-position  the leg, showing this
 -- with-drive     the leg, driven like this
 -- frame          all of a leg but what it shows
+-- mirrored       the leg with left and right exchanged, in what it shows and how it is driven
 -- positions      what the legs show, in order
 -- words          what the legs read, in order
 use Prim.Native.Nat.{ℕ}
 use mathlib.Core.Bool.{Bool}
 use mathlib.Core.List.{List, map}
-use Rattle.machine.specs.declared.position.Position.{Position}
-use Rattle.machine.specs.declared.position.Position.the-variants.{NoEndPosition}
-use Rattle.machine.specs.declared.drive.Drive.{Drive}
+use Rattle.legs.specs.Crossing.{opposite-position, opposite-drive}
+use Rattle.legs.specs.declared.position.Position.{Position}
+use Rattle.legs.specs.declared.position.Position.the-variants.{NoEndPosition}
+use Rattle.legs.specs.declared.drive.Drive.{Drive}
 
 pub record Leg : Type 0 where
   pub shows : Position
@@ -29,6 +31,9 @@ with-drive d l = leg-of (l .shows) d (l .reads)
 
 abbrev pub frame : Leg → Leg
 frame l = with-position NoEndPosition l
+
+abbrev pub mirrored : Leg → Leg
+mirrored l = with-position (opposite-position (l .shows)) (with-drive (opposite-drive (l .driven)) l)
 
 abbrev pub positions : List Leg → List Position
 positions m = map (λ l. l .shows) m

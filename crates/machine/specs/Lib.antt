@@ -1,8 +1,3 @@
-pub mod Letters
-pub mod Refusals
-pub mod Ends
-pub mod Crossing
-pub mod Combined
 pub mod Legs
 pub mod Places
 pub mod Actions

@@ -7,10 +7,10 @@ use mathlib.Core.Bool.{cond}
 use mathlib.Core.List.{List, [], _∷_}
 use mathlib.Core.Path.{_≡_}
 use lib.Dec.{eqb}
-use Rattle.machine.specs.declared.drive.Drive.{Drive}
-use Rattle.machine.specs.declared.drive.Drive.the-variants.{Off}
+use Rattle.legs.specs.declared.drive.Drive.{Drive}
+use Rattle.legs.specs.declared.drive.Drive.the-variants.{Off}
 use Rattle.machine.specs.Actions.{Action, Driving, Halting, Switching, Hearing, Passing}
-use Rattle.machine.specs.Ends.{drive-towards}
+use Rattle.legs.specs.Ends.{drive-towards}
 use Rattle.machine.specs.Legs.{Leg, with-drive, frame}
 
 pub record MotorLaws {M : Type 0} (leg : M → Leg) (driven : Drive → M → M) (heard : ℕ → M → M) (passed : M → M) : Type 0 where

@@ -17,12 +17,12 @@ use Rattle.std.specs.declared.option.Option.{Option}
 use Rattle.std.specs.declared.option.Option.the-variants.{Some, None}
 use Rattle.std.specs.declared.result.Result.{Result}
 use Rattle.std.specs.declared.result.Result.the-variants.{Ok, Err}
-use Rattle.machine.specs.declared.position.Position.{Position}
-use Rattle.machine.specs.declared.position.Position.the-variants.{NoEndPosition}
-use Rattle.machine.specs.declared.drive.Drive.{Drive}
-use Rattle.machine.specs.declared.drive.Drive.the-variants.{Off}
-use Rattle.machine.specs.declared.read_refusal.ReadRefusal.{ReadRefusal}
-use Rattle.machine.specs.declared.read_refusal.ReadRefusal.the-variants.{MissingLeg, UnreadableWord}
+use Rattle.legs.specs.declared.position.Position.{Position}
+use Rattle.legs.specs.declared.position.Position.the-variants.{NoEndPosition}
+use Rattle.legs.specs.declared.drive.Drive.{Drive}
+use Rattle.legs.specs.declared.drive.Drive.the-variants.{Off}
+use Rattle.legs.specs.declared.read_refusal.ReadRefusal.{ReadRefusal}
+use Rattle.legs.specs.declared.read_refusal.ReadRefusal.the-variants.{MissingLeg, UnreadableWord}
 use Rattle.machine.specs.Legs.{Leg}
 
 abbrev pub known-legs : ℕ

@@ -2,11 +2,11 @@
 ghost use Prim.Native.Nat.{_≤_};
 ghost use lib.ListN.{length};
 ghost use mathlib.Core.Path.{_≡_};
-ghost use Rattle.machine.specs.Combined.{combined};
+ghost use Rattle.legs.specs.Combined.{combined};
 ghost use Rattle.machine.specs.Legs.{positions};
 ghost use Rattle.machine.specs.Places.{known-legs, known-part};
 use crate::interface::Machine;
-use crate::position::Position;
+use legs::Position;
 
 // Legs with a higher number than 4 cannot be asked one by one.
 const KNOWN_LEGS: u16 = 5;

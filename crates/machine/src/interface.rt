@@ -6,10 +6,10 @@ ghost use Rattle.machine.specs.Laws.{Laws};
 ghost use Rattle.machine.specs.Legs.{Leg, frame};
 ghost use Rattle.machine.specs.Places.{count-of, driven-at, read-answer, shown-at};
 ghost use Rattle.std.specs.Results.{Cases};
-use crate::drive::Drive;
-use crate::end::End;
-use crate::position::Position;
-use crate::read_refusal::ReadRefusal;
+use legs::Drive;
+use legs::End;
+use legs::Position;
+use legs::ReadRefusal;
 
 pub trait Machine {
     // The legs, leg 0 first: what each shows, how it is driven, which words it reads.

@@ -2,14 +2,14 @@
 ghost use Prim.Native.Nat.{ℕ};
 ghost use mathlib.Core.Bool.{cond};
 ghost use mathlib.Core.Path.{_≡_};
-ghost use Rattle.machine.specs.declared.drive.Drive.{Drive};
+ghost use Rattle.legs.specs.declared.drive.Drive.{Drive};
 ghost use Rattle.machine.specs.Legs.{Leg};
 ghost use Rattle.machine.specs.Motors.{MotorLaws, motor-after, motor-legs};
-use crate::drive::Drive;
-use crate::end::End;
 use crate::interface::Machine;
-use crate::position::Position;
-use crate::read_refusal::ReadRefusal;
+use legs::Drive;
+use legs::End;
+use legs::Position;
+use legs::ReadRefusal;
 
 // What the makes of one leg differ in. Each is a machine by this alone.
 pub trait Motor {

@@ -1,14 +1,14 @@
 // What the tests ask of a leg again and again.
-use machine::Drive;
-use machine::DriveDebug;
-use machine::DrivePartialEq;
+use legs::Drive;
+use legs::DriveDebug;
+use legs::DrivePartialEq;
+use legs::Position;
+use legs::PositionDebug;
+use legs::PositionPartialEq;
+use legs::ReadRefusal;
+use legs::ReadRefusalDebug;
+use legs::ReadRefusalPartialEq;
 use machine::Machine;
-use machine::Position;
-use machine::PositionDebug;
-use machine::PositionPartialEq;
-use machine::ReadRefusal;
-use machine::ReadRefusalDebug;
-use machine::ReadRefusalPartialEq;
 use std::test::*;
 
 const UNREADABLE: Result<(), ReadRefusal> = Err(ReadRefusal::UnreadableWord);

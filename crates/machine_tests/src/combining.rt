@@ -1,12 +1,12 @@
 // What three legs show together.
 use layers::Pair;
 use layers::PairMachine;
+use legs::Position;
+use legs::PositionDebug;
+use legs::PositionPartialEq;
+use legs::ReadRefusalDebug;
 use machine::Machine;
 use machine::MotorMachine;
-use machine::Position;
-use machine::PositionDebug;
-use machine::PositionPartialEq;
-use machine::ReadRefusalDebug;
 use machine::combined_position;
 use makes::DetectedMotor;
 use makes::Wired;

@@ -2,15 +2,15 @@
 use crate::checks::misses;
 use crate::checks::refuses;
 use crate::checks::shows;
-use machine::Drive;
-use machine::DriveDebug;
-use machine::DrivePartialEq;
+use legs::Drive;
+use legs::DriveDebug;
+use legs::DrivePartialEq;
+use legs::Position;
+use legs::PositionDebug;
+use legs::PositionPartialEq;
+use legs::ReadRefusal;
 use machine::Machine;
 use machine::MotorMachine;
-use machine::Position;
-use machine::PositionDebug;
-use machine::PositionPartialEq;
-use machine::ReadRefusal;
 use makes::Coded;
 use makes::CodedDecoder;
 use makes::DetectedMotor;
@@ -59,13 +59,13 @@ fn coded_words() -> Result<(), Fail> {
 fn detectors_stay_where_they_are() -> Result<(), Fail> {
     let mut wired = Wired::new();
     shows(&mut wired, 0, 1, Position::Left)?;
-    wired.drive(machine::End::Right);
+    wired.drive(legs::End::Right);
     wired.pass();
     check_eq(wired.show(0), Position::Left)?;
     check_eq(wired.driven(0), Drive::Right)?;
     let mut coded = Coded::new();
     shows(&mut coded, 0, 765, Position::Right)?;
-    coded.drive(machine::End::Left);
+    coded.drive(legs::End::Left);
     coded.pass();
     check_eq(coded.show(0), Position::Right)?;
     check_eq(coded.driven(0), Drive::Left)
@@ -74,7 +74,7 @@ fn detectors_stay_where_they_are() -> Result<(), Fail> {
 #[test]
 fn missing_legs() -> Result<(), Fail> {
     let mut wired = Wired::new();
-    wired.drive(machine::End::Left);
+    wired.drive(legs::End::Left);
     for leg in [1, 4, 5, 256, 65535] {
         misses(&mut wired, leg, 1)?;
         misses(&mut wired, leg, 3)?;

@@ -1,14 +1,14 @@
 // A throw by the interface alone.
 ghost use Prim.Native.Nat.{_≤_};
 ghost use mathlib.Core.Path.{_≡_};
-ghost use Rattle.machine.specs.Combined.{combined};
-ghost use Rattle.machine.specs.Ends.{position-at};
+ghost use Rattle.legs.specs.Combined.{combined};
+ghost use Rattle.legs.specs.Ends.{position-at};
 ghost use Rattle.machine.specs.Legs.{positions};
 ghost use Rattle.machine.specs.Places.{known-part};
 ghost use Rattle.std.specs.Options.{Cases};
-use machine::End;
+use legs::End;
+use legs::PositionPartialEq;
 use machine::Machine;
-use machine::PositionPartialEq;
 use machine::combined_position;
 
 // Drives all legs to an end, and answers on which tick they are all there, if they are after so many.

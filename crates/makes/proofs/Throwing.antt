@@ -7,14 +7,14 @@ use native.Mathlib.Omega.{arith}
 use lib.Dec.{eqb, leb, ltb}
 use Rattle.std.proofs.shelf.Tests.{cond-both, ltb-true, leb-true, eq-eqb, ne-eqb, eqb-true}
 use Rattle.std.proofs.shelf.Ways.{tells}
-use Rattle.machine.specs.declared.drive.Drive.{Drive}
-use Rattle.machine.specs.declared.drive.Drive.the-variants as drive
-use Rattle.machine.specs.declared.end.End.{End}
-use Rattle.machine.specs.declared.end.End.the-variants.{Left, Right}
-use Rattle.machine.specs.declared.position.Position.{Position}
-use Rattle.machine.specs.declared.position.Position.the-variants as position
+use Rattle.legs.specs.declared.drive.Drive.{Drive}
+use Rattle.legs.specs.declared.drive.Drive.the-variants as drive
+use Rattle.legs.specs.declared.end.End.{End}
+use Rattle.legs.specs.declared.end.End.the-variants.{Left, Right}
+use Rattle.legs.specs.declared.position.Position.{Position}
+use Rattle.legs.specs.declared.position.Position.the-variants as position
 use Rattle.machine.specs.Actions.{Action, Driving, Halting, Switching, Hearing, Passing}
-use Rattle.machine.specs.Ends.{drive-towards, position-at}
+use Rattle.legs.specs.Ends.{drive-towards, position-at}
 use Rattle.machine.specs.Motors.{motor-after}
 use Rattle.makes.specs.declared.model.Model.{Model}
 use Rattle.makes.specs.Model.{place-after, place-shows, model-leg, new-model, model-driven, model-heard, model-passed}

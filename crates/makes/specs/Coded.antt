@@ -9,8 +9,8 @@ use mathlib.Core.List.{List, [], _∷_}
 use lib.Dec.{eqb}
 use Rattle.std.specs.declared.option.Option.{Option}
 use Rattle.std.specs.declared.option.Option.the-variants.{Some, None}
-use Rattle.machine.specs.declared.position.Position.{Position}
-use Rattle.machine.specs.declared.position.Position.the-variants.{Left, Right, NoEndPosition, Trailed}
+use Rattle.legs.specs.declared.position.Position.{Position}
+use Rattle.legs.specs.declared.position.Position.the-variants.{Left, Right, NoEndPosition, Trailed}
 use Rattle.makes.specs.declared.coded.CodedWords.{CodedWords}
 use Rattle.makes.specs.declared.detected.Detected.{Detected}
 use Rattle.makes.specs.Detected.{new-detected}

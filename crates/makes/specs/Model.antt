@@ -7,10 +7,10 @@
 use Prim.Native.Nat.{ℕ, _+_, _-_, _≤_, min, max}
 use mathlib.Core.Bool.{cond}
 use lib.Dec.{eqb, leb, ltb}
-use Rattle.machine.specs.declared.position.Position.{Position}
-use Rattle.machine.specs.declared.position.Position.the-variants as position
-use Rattle.machine.specs.declared.drive.Drive.{Drive}
-use Rattle.machine.specs.declared.drive.Drive.the-variants.{Left, Right, Off}
+use Rattle.legs.specs.declared.position.Position.{Position}
+use Rattle.legs.specs.declared.position.Position.the-variants as position
+use Rattle.legs.specs.declared.drive.Drive.{Drive}
+use Rattle.legs.specs.declared.drive.Drive.the-variants.{Left, Right, Off}
 use Rattle.machine.specs.Legs.{Leg, leg-of}
 use Rattle.makes.specs.declared.model.Model.{Model}
 

@@ -6,11 +6,11 @@
 -- Arrives    a sound model driven to an end shows it from the tick that takes the last of these places on, and not before
 use Prim.Native.Nat.{ℕ, zero, suc, _-_, _≤_, _<_}
 use mathlib.Core.Path.{_≡_}
-use Rattle.machine.specs.declared.end.End.{End}
-use Rattle.machine.specs.declared.end.End.the-variants.{Left, Right}
-use Rattle.machine.specs.declared.position.Position.{Position}
+use Rattle.legs.specs.declared.end.End.{End}
+use Rattle.legs.specs.declared.end.End.the-variants.{Left, Right}
+use Rattle.legs.specs.declared.position.Position.{Position}
 use Rattle.machine.specs.Actions.{Action}
-use Rattle.machine.specs.Ends.{drive-towards, position-at}
+use Rattle.legs.specs.Ends.{drive-towards, position-at}
 use Rattle.machine.specs.Motors.{motor-after}
 use Rattle.makes.specs.declared.model.Model.{Model}
 use Rattle.makes.specs.Model.{model-leg, new-model, model-driven, model-heard, model-passed}

@@ -3,7 +3,7 @@ ghost use mathlib.Core.Path.{_≡_};
 ghost use Rattle.makes.specs.Coded.{coded-says, new-coded};
 use crate::detected::Decoder;
 use crate::detected::Detected;
-use machine::Position;
+use legs::Position;
 
 #[derive(Clone, Copy)]
 pub struct CodedWords;

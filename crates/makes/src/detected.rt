@@ -1,12 +1,12 @@
 // A leg that shows what its detector last said. The makes of this kind differ in how the detector says it.
 ghost use Prim.Native.Nat.{ℕ};
 ghost use mathlib.Core.Path.{_≡_};
-ghost use Rattle.machine.specs.declared.position.Position.{Position};
+ghost use Rattle.legs.specs.declared.position.Position.{Position};
 ghost use Rattle.makes.specs.Detected.{detected-driven, detected-heard, detected-leg, detected-passed, new-detected};
 ghost use Rattle.std.specs.declared.option.Option.{Option};
-use machine::Drive;
+use legs::Drive;
+use legs::Position;
 use machine::Motor;
-use machine::Position;
 
 // How a detector writes positions into words.
 pub trait Decoder {

@@ -2,9 +2,9 @@
 ghost use mathlib.Core.Path.{_≡_};
 ghost use Rattle.makes.specs.Throws.{Arrives, Stays-sound};
 ghost use Rattle.makes.specs.Model.{model-driven, model-heard, model-leg, model-passed, new-model};
-use machine::Drive;
+use legs::Drive;
+use legs::Position;
 use machine::Motor;
-use machine::Position;
 
 const LONGEST_TRAVEL: u16 = 600;
 

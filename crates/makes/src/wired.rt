@@ -3,7 +3,7 @@ ghost use mathlib.Core.Path.{_≡_};
 ghost use Rattle.makes.specs.Wired.{new-wired, wired-says};
 use crate::detected::Decoder;
 use crate::detected::Detected;
-use machine::Position;
+use legs::Position;
 
 // Bit 0 is the left contact, bit 1 the right one, bit 2 says that the point was trailed.
 #[derive(Clone, Copy)]

@@ -1,6 +1,6 @@
 use mathlib.Core.List.{map-map}
 use mathlib.Core.Path.{sym, ap, _∙_}
-use Rattle.machine.specs.declared.drive.Drive.the-variants.{Off}
+use Rattle.legs.specs.declared.drive.Drive.the-variants.{Off}
 use Rattle.machine.specs.Actions.{halted}
 use Rattle.machine.specs.Legs.{with-drive}
 use Rattle.acceptance.proofs.throwing.run_ticks.Needs as need

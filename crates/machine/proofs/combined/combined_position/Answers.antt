@@ -3,7 +3,7 @@ use native.Mathlib.Omega.{arith}
 use Prim.Native.Nat.{min, _<_}
 use lib.ListN.{length}
 use Rattle.std.proofs.shelf.Lists.{take-all}
-use Rattle.machine.specs.Combined.{combined, joined}
+use Rattle.legs.specs.Combined.{combined, joined}
 use Rattle.machine.specs.Legs.{positions}
 use Rattle.machine.specs.Places.{known-legs, known-part}
 use Rattle.machine.proofs.Together.{first-shown, next-shown, known-taken}

@@ -1,6 +1,6 @@
 use mathlib.Core.Path.{_≡_}
 use lib.ListN.{take}
-use Rattle.machine.specs.Combined.{combined}
+use Rattle.legs.specs.Combined.{combined}
 use Rattle.machine.specs.Legs.{positions}
 use Rattle.machine.proofs.combined.combined_position.Given as given
 

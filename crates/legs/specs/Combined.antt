@@ -6,9 +6,9 @@
 use mathlib.Core.Bool.{Bool, true, false, cond, _&&_, _||_}
 use mathlib.Core.List.{List, [], _∷_}
 use lib.Dec.{eqb}
-use Rattle.machine.specs.declared.position.Position.{Position}
-use Rattle.machine.specs.declared.position.Position.the-variants.{Left, Right, NoEndPosition, Trailed}
-use Rattle.machine.specs.Letters.{position-letter}
+use Rattle.legs.specs.declared.position.Position.{Position}
+use Rattle.legs.specs.declared.position.Position.the-variants.{Left, Right, NoEndPosition, Trailed}
+use Rattle.legs.specs.Letters.{position-letter}
 
 abbrev pub same-position : Position → Position → Bool
 same-position p q = eqb (position-letter p) (position-letter q)

@@ -1,11 +1,11 @@
 // Where a point can be ordered to go.
 ghost use mathlib.Core.Path.{_≡_};
-ghost use Rattle.machine.specs.Crossing.{opposite-end};
-ghost use Rattle.machine.specs.Ends.{drive-towards, position-at};
+ghost use Rattle.legs.specs.Crossing.{opposite-end};
+ghost use Rattle.legs.specs.Ends.{drive-towards, position-at};
 use crate::drive::Drive;
 use crate::position::Position;
 
-#[derive(Clone, Copy, PartialEq, Eq, Debug)]
+#[derive(Clone, Copy, PartialEq, Eq)]
 pub enum End {
     Left,
     Right,

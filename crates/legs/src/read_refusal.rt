@@ -1,6 +1,6 @@
 // Why a machine does not take a word.
 ghost use mathlib.Core.Path.{_≡_};
-ghost use Rattle.machine.specs.Refusals.{read-refusal-number};
+ghost use Rattle.legs.specs.Refusals.{read-refusal-number};
 
 #[derive(Clone, Copy, PartialEq, Eq, Debug)]
 pub enum ReadRefusal {

@@ -1,8 +1,8 @@
 // What the detector of a leg, or a whole point, shows.
 ghost use mathlib.Core.Path.{_≡_};
-ghost use Rattle.machine.specs.Combined.{joined};
-ghost use Rattle.machine.specs.Crossing.{opposite-position};
-ghost use Rattle.machine.specs.Letters.{position-letter};
+ghost use Rattle.legs.specs.Combined.{joined};
+ghost use Rattle.legs.specs.Crossing.{opposite-position};
+ghost use Rattle.legs.specs.Letters.{position-letter};
 
 #[derive(Clone, Copy, PartialEq, Eq, Debug)]
 pub enum Position {

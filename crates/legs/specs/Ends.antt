@@ -4,13 +4,13 @@
 -- reached        whether a leg is where it is driven: the two letters are the same
 use mathlib.Core.Bool.{Bool}
 use lib.Dec.{eqb}
-use Rattle.machine.specs.declared.position.Position.{Position}
-use Rattle.machine.specs.declared.position.Position.the-variants as position
-use Rattle.machine.specs.declared.drive.Drive.{Drive}
-use Rattle.machine.specs.declared.drive.Drive.the-variants as drive
-use Rattle.machine.specs.declared.end.End.{End}
-use Rattle.machine.specs.declared.end.End.the-variants as end
-use Rattle.machine.specs.Letters.{drive-letter, position-letter}
+use Rattle.legs.specs.declared.position.Position.{Position}
+use Rattle.legs.specs.declared.position.Position.the-variants as position
+use Rattle.legs.specs.declared.drive.Drive.{Drive}
+use Rattle.legs.specs.declared.drive.Drive.the-variants as drive
+use Rattle.legs.specs.declared.end.End.{End}
+use Rattle.legs.specs.declared.end.End.the-variants as end
+use Rattle.legs.specs.Letters.{drive-letter, position-letter}
 
 abbrev pub drive-towards : End → Drive
 drive-towards end.Left = drive.Left

@@ -1,8 +1,8 @@
 // What the motor of a leg is told.
 ghost use mathlib.Core.Path.{_≡_};
-ghost use Rattle.machine.specs.Crossing.{opposite-drive};
-ghost use Rattle.machine.specs.Ends.{reached};
-ghost use Rattle.machine.specs.Letters.{drive-letter};
+ghost use Rattle.legs.specs.Crossing.{opposite-drive};
+ghost use Rattle.legs.specs.Ends.{reached};
+ghost use Rattle.legs.specs.Letters.{drive-letter};
 use crate::position::Position;
 
 #[derive(Clone, Copy, PartialEq, Eq, Debug)]

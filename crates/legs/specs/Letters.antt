@@ -2,10 +2,10 @@
 -- position-letter  what a detector shows
 -- drive-letter     what a motor is told
 use Prim.Native.Nat.{ℕ}
-use Rattle.machine.specs.declared.position.Position.{Position}
-use Rattle.machine.specs.declared.position.Position.the-variants as position
-use Rattle.machine.specs.declared.drive.Drive.{Drive}
-use Rattle.machine.specs.declared.drive.Drive.the-variants as drive
+use Rattle.legs.specs.declared.position.Position.{Position}
+use Rattle.legs.specs.declared.position.Position.the-variants as position
+use Rattle.legs.specs.declared.drive.Drive.{Drive}
+use Rattle.legs.specs.declared.drive.Drive.the-variants as drive
 
 abbrev pub position-letter : Position → ℕ
 position-letter position.Left = 76

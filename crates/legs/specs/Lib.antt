@@ -1,0 +1,5 @@
+pub mod Letters
+pub mod Refusals
+pub mod Ends
+pub mod Crossing
+pub mod Combined
