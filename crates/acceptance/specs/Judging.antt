@@ -11,7 +11,7 @@ use Rattle.legs.specs.declared.drive.Drive.the-variants.{Off}
 use Rattle.machine.specs.Actions.{off-at}
 use Rattle.legs.specs.Ends.{reached}
 use Rattle.machine.specs.Legs.{Leg}
-use Rattle.machine.specs.Places.{known-legs, driven-at, shown-at}
+use Rattle.machine.specs.LegNumbers.{known-legs, driven-at, shown-at}
 
 abbrev pub arrived-at : List Leg → ℕ → Bool
 arrived-at m k = reached (driven-at m k) (shown-at m k)

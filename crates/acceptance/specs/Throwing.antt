@@ -8,7 +8,7 @@ use Rattle.machine.specs.Actions.{halted}
 use Rattle.legs.specs.Combined.{combined}
 use Rattle.legs.specs.Ends.{position-at}
 use Rattle.machine.specs.Legs.{Leg, positions}
-use Rattle.machine.specs.Places.{known-part}
+use Rattle.machine.specs.LegNumbers.{known-part}
 use Rattle.acceptance.specs.declared.throwing.Outcome.{Outcome}
 use Rattle.acceptance.specs.declared.throwing.Outcome.the-variants.{Arrived, TimedOut}
 

@@ -7,9 +7,9 @@ use layers::CrossedMachine;
 use layers::Pair;
 use layers::PairMachine;
 use machine::Machine;
-use machine::MotorMachine;
+use machine::SingleLegMachine;
 use makes::Model;
-use makes::ModelMotor;
+use makes::ModelLeg;
 use std::io;
 
 pub type FrontHalf = Pair<Model, Pair<Crossed<Model>, Model>>;

@@ -9,16 +9,16 @@ use Rattle.std.specs.declared.option.Option.the-variants.{Some, None}
 use Rattle.legs.specs.declared.drive.Drive.the-variants.{Off}
 use Rattle.legs.specs.declared.end.End.{End}
 use Rattle.legs.specs.declared.end.End.the-variants.{Left, Right}
-use Rattle.machine.specs.Actions.{Action, Driving, Halting, Switching, Hearing, Passing, Effect, drive-leg, drive-to, halted, off-at}
+use Rattle.machine.specs.Actions.{Action, Driving, Halting, SwitchingOff, ReadingWord, Passing, Effect, drive-leg, drive-to, halted, off-at}
 use Rattle.legs.specs.Crossing.{opposite-position, opposite-drive, opposite-end}
 use Rattle.machine.specs.Laws.{Laws}
 use Rattle.machine.specs.Legs.{Leg, with-position, with-drive, frame, mirrored}
-use Rattle.machine.specs.Places.{count-of, leg-at, shown-of, driven-of, answer-of, shown-at, driven-at, read-answer}
-use Rattle.machine.proofs.Places.{leg-at-map, at-leg-map}
+use Rattle.machine.specs.LegNumbers.{count-of, leg-at, shown-of, driven-of, answer-of, shown-at, driven-at, read-answer}
+use Rattle.machine.proofs.LegNumbers.{leg-at-map, at-leg-map}
 use Rattle.layers.specs.Crossed.{crossed-legs, crossed-action, crossed-does}
 
 -- two things done to every leg, the one after the other or the other after the one
-map-swap : (h f g : Leg → Leg) → ((l : Leg) → h (f l) ≡ g (h l)) → (m : List Leg) → map h (map f m) ≡ map g (map h m)
+pub map-swap : (h f g : Leg → Leg) → ((l : Leg) → h (f l) ≡ g (h l)) → (m : List Leg) → map h (map f m) ≡ map g (map h m)
 map-swap h f g same [] = refl
 map-swap h f g same (l ∷ m) = rw (same l) (ap (λ n. g (h l) ∷ n) (map-swap h f g same m))
 
@@ -63,11 +63,11 @@ pub frame-mirrored : (m : List Leg) → map frame (map mirrored m) ≡ map mirro
 frame-mirrored m = map-swap frame mirrored mirrored (λ l. refl) m
 
 -- an effect below, seen crossed
-effect-mirrored : (a : Action) (m n : List Leg) → Effect (crossed-action a) m n → Effect a (map mirrored m) (map mirrored n)
+pub effect-mirrored : (a : Action) (m n : List Leg) → Effect (crossed-action a) m n → Effect a (map mirrored m) (map mirrored n)
 effect-mirrored (Driving e) m n h = rw h (drive-to-mirrored e m)
 effect-mirrored Halting m n h = rw h (halted-mirrored m)
-effect-mirrored (Switching k) m n h = rw h (off-at-mirrored k m)
-effect-mirrored (Hearing k w) m n h =
+effect-mirrored (SwitchingOff k) m n h = rw h (off-at-mirrored k m)
+effect-mirrored (ReadingWord k w) m n h =
     (opposite-position (h .0), rw (h .1) (at-leg-map mirrored (with-position (h .0)) (with-position (opposite-position (h .0))) (λ l. refl) k m))
 effect-mirrored Passing m n h = frame-mirrored n ∙ ap (map mirrored) h ∙ sym (frame-mirrored m)
 

@@ -13,11 +13,11 @@ use Rattle.std.specs.declared.option.Option.the-variants.{None}
 use Rattle.std.proofs.shelf.Lists.{map-append}
 use Rattle.std.proofs.shelf.Tests.{cases-lt, lt-ltb, le-ltb}
 use Rattle.legs.specs.declared.drive.Drive.the-variants.{Off}
-use Rattle.machine.specs.Actions.{Action, Driving, Halting, Switching, Hearing, Passing, Effect, drive-leg}
+use Rattle.machine.specs.Actions.{Action, Driving, Halting, SwitchingOff, ReadingWord, Passing, Effect, drive-leg}
 use Rattle.machine.specs.Laws.{Laws}
 use Rattle.machine.specs.Legs.{Leg, with-position, with-drive, frame}
-use Rattle.machine.specs.Places.{count-of, known-legs, leg-at, at-leg}
-use Rattle.machine.proofs.Places.{nth-front, nth-back, at-place-front, at-place-back}
+use Rattle.machine.specs.LegNumbers.{count-of, known-legs, leg-at, at-leg}
+use Rattle.machine.proofs.LegNumbers.{nth-front, nth-back, at-index-front, at-index-back}
 use Rattle.legs.specs.declared.position.Position.{Position}
 use Rattle.legs.specs.declared.position.Position.the-variants.{NoEndPosition}
 use Rattle.layers.specs.declared.pair.Pair.{Pair}
@@ -36,21 +36,21 @@ change-in f (First k) m n = at-leg f k m ++ n
 change-in f (Second k) m n = m ++ at-leg f k n
 change-in f Missing m n = m ++ n
 
-data Where (m : List Leg) (k : ℕ) : Type 0 where
+pub data Where (m : List Leg) (k : ℕ) : Type 0 where
   missing : known-legs ≤ k → Where m k
   in-front : k < known-legs → k < length m → Where m k
   behind : k < known-legs → length m ≤ k → Where m k
 
-where-is : (m : List Leg) (k : ℕ) → Where m k
+pub where-is : (m : List Leg) (k : ℕ) → Where m k
 where-is m k = ⊎-elim (λ known. ⊎-elim (in-front known) (behind known) (cases-lt k (length m))) missing (cases-lt k known-legs)
 
-part-missing : (m : List Leg) (k : ℕ) → known-legs ≤ k → part-of (count-of m) k ≡ Missing
+pub part-missing : (m : List Leg) (k : ℕ) → known-legs ≤ k → part-of (count-of m) k ≡ Missing
 part-missing m k h = rw (le-ltb k known-legs h) refl
 
-part-front : (m : List Leg) (k : ℕ) → k < known-legs → k < length m → part-of (count-of m) k ≡ First k
+pub part-front : (m : List Leg) (k : ℕ) → k < known-legs → k < length m → part-of (count-of m) k ≡ First k
 part-front m k h i = let below : k < count-of m = omega arith in rw (lt-ltb k known-legs h, lt-ltb k (count-of m) below) refl
 
-part-behind : (m : List Leg) (k : ℕ) → k < known-legs → length m ≤ k → part-of (count-of m) k ≡ Second (k - length m)
+pub part-behind : (m : List Leg) (k : ℕ) → k < known-legs → length m ≤ k → part-of (count-of m) k ≡ Second (k - length m)
 part-behind m k h i =
     let above : count-of m ≤ k = omega arith in
     let all : k - count-of m ≡ k - length m = omega arith in
@@ -70,10 +70,10 @@ pub change-by-part : (f : Leg → Leg) (m n : List Leg) (k : ℕ) → at-leg f k
 change-by-part f m n k =
     elim (where-is m k) [
       | missing h ↦ rw (part-missing m k h, le-ltb k known-legs h) refl
-      | in-front h i ↦ rw (part-front m k h i, lt-ltb k known-legs h) (at-place-front f m n k i)
+      | in-front h i ↦ rw (part-front m k h i, lt-ltb k known-legs h) (at-index-front f m n k i)
       | behind h i ↦
           let near : k - length m < known-legs = omega arith in
-          rw (part-behind m k h i, lt-ltb k known-legs h, lt-ltb (k - length m) known-legs near) (at-place-back f m n k i)
+          rw (part-behind m k h i, lt-ltb k known-legs h, lt-ltb (k - length m) known-legs near) (at-index-back f m n k i)
     ]
 
 -- the part that was found for a leg, by the count that the first part gave
@@ -98,19 +98,19 @@ module _ {M N : Type 0} {meaning₁ : M → List Leg} {meaning₂ : N → List L
   abbrev legs : Pair M N → List Leg
   legs x = pair-legs meaning₁ meaning₂ x
 
-  off-in : (p : Part) (x y : Pair M N) → One-part does₁ does₂ p Switching x y → legs y ≡ change-in (with-drive Off) p (meaning₁ (x .first)) (meaning₂ (x .second))
-  off-in (First k) x y h = ap₂ _++_ (kept₁ .effect (x .first) (Switching k) (y .first) (h .0)) (ap meaning₂ (h .1))
-  off-in (Second k) x y h = ap₂ _++_ (ap meaning₁ (h .1)) (kept₂ .effect (x .second) (Switching k) (y .second) (h .0))
+  pub off-in : (p : Part) (x y : Pair M N) → One-part does₁ does₂ p SwitchingOff x y → legs y ≡ change-in (with-drive Off) p (meaning₁ (x .first)) (meaning₂ (x .second))
+  off-in (First k) x y h = ap₂ _++_ (kept₁ .effect (x .first) (SwitchingOff k) (y .first) (h .0)) (ap meaning₂ (h .1))
+  off-in (Second k) x y h = ap₂ _++_ (ap meaning₁ (h .1)) (kept₂ .effect (x .second) (SwitchingOff k) (y .second) (h .0))
   off-in Missing x y h = ap legs h
 
-  heard-in : (p : Part) (w : ℕ) (x y : Pair M N) → One-part does₁ does₂ p (λ k. Hearing k w) x y → (v : Position) × (legs y ≡ change-in (with-position v) p (meaning₁ (x .first)) (meaning₂ (x .second)))
-  heard-in (First k) w x y h =
-      let after = kept₁ .effect (x .first) (Hearing k w) (y .first) (h .0) in
+  pub read-in : (p : Part) (w : ℕ) (x y : Pair M N) → One-part does₁ does₂ p (λ k. ReadingWord k w) x y → (v : Position) × (legs y ≡ change-in (with-position v) p (meaning₁ (x .first)) (meaning₂ (x .second)))
+  read-in (First k) w x y h =
+      let after = kept₁ .effect (x .first) (ReadingWord k w) (y .first) (h .0) in
       (after .0, ap₂ _++_ (after .1) (ap meaning₂ (h .1)))
-  heard-in (Second k) w x y h =
-      let after = kept₂ .effect (x .second) (Hearing k w) (y .second) (h .0) in
+  read-in (Second k) w x y h =
+      let after = kept₂ .effect (x .second) (ReadingWord k w) (y .second) (h .0) in
       (after .0, ap₂ _++_ (ap meaning₁ (h .1)) (after .1))
-  heard-in Missing w x y h = (NoEndPosition, ap legs h)
+  read-in Missing w x y h = (NoEndPosition, ap legs h)
 
   -- what is done to every leg of both parts is done to every leg of the pair
   all-legs : (f : Leg → Leg) (x y : Pair M N) → meaning₁ (y .first) ≡ map f (meaning₁ (x .first)) → meaning₂ (y .second) ≡ map f (meaning₂ (x .second)) → legs y ≡ map f (legs x)
@@ -119,10 +119,10 @@ module _ {M N : Type 0} {meaning₁ : M → List Leg} {meaning₂ : N → List L
   pub pair-effect : (x : Pair M N) (a : Action) (y : Pair M N) → pair-does meaning₁ does₁ does₂ x a y → Effect a (legs x) (legs y)
   pair-effect x (Driving e) y h = all-legs (drive-leg e) x y (kept₁ .effect (x .first) (Driving e) (y .first) (h .0)) (kept₂ .effect (x .second) (Driving e) (y .second) (h .1))
   pair-effect x Halting y h = all-legs (with-drive Off) x y (kept₁ .effect (x .first) Halting (y .first) (h .0)) (kept₂ .effect (x .second) Halting (y .second) (h .1))
-  pair-effect x (Switching k) y h =
+  pair-effect x (SwitchingOff k) y h =
       off-in (part-of (count-of (meaning₁ (x .first))) k) x y h ∙ sym (change-by-part (with-drive Off) (meaning₁ (x .first)) (meaning₂ (x .second)) k)
-  pair-effect x (Hearing k w) y h =
-      let after = heard-in (part-of (count-of (meaning₁ (x .first))) k) w x y h in
+  pair-effect x (ReadingWord k w) y h =
+      let after = read-in (part-of (count-of (meaning₁ (x .first))) k) w x y h in
       (after .0, after .1 ∙ sym (change-by-part (with-position (after .0)) (meaning₁ (x .first)) (meaning₂ (x .second)) k))
   pair-effect x Passing y h =
       map-append frame (meaning₁ (y .first)) (meaning₂ (y .second))

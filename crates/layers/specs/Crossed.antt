@@ -4,7 +4,7 @@
 -- crossed-action  what is done below in place of an action
 -- crossed-does    its own rule: the one below, at that action
 use mathlib.Core.List.{List, map}
-use Rattle.machine.specs.Actions.{Action, Driving, Halting, Switching, Hearing, Passing}
+use Rattle.machine.specs.Actions.{Action, Driving, Halting, SwitchingOff, ReadingWord, Passing}
 use Rattle.legs.specs.Crossing.{opposite-end}
 use Rattle.machine.specs.Legs.{Leg, mirrored}
 use Rattle.layers.specs.declared.crossed.Crossed.{Crossed}
@@ -18,8 +18,8 @@ crossed-legs meaning x = map mirrored (meaning (x .below))
 abbrev pub crossed-action : Action → Action
 crossed-action (Driving e) = Driving (opposite-end e)
 crossed-action Halting = Halting
-crossed-action (Switching k) = Switching k
-crossed-action (Hearing k w) = Hearing k w
+crossed-action (SwitchingOff k) = SwitchingOff k
+crossed-action (ReadingWord k w) = ReadingWord k w
 crossed-action Passing = Passing
 
 abbrev pub crossed-does : {M : Type 0} → (M → Action → M → Type 0) → Crossed M → Action → Crossed M → Type 0

@@ -3,15 +3,16 @@
 -- pair-legs  its legs: those of the first, then those of the second
 -- part-of    which part has a leg, and its number there, by the count of the first
 -- One-part   an action on one leg is one on the part that has it, and the other part's value stays; nothing for a missing leg
--- pair-does  its own rule: what is done to all legs is done to both parts
+-- Both-parts an action on all legs is one on both parts
+-- pair-does  its own rule, by these two
 use Prim.Native.Nat.{ℕ, _-_}
 use mathlib.Core.Bool.{cond}
 use mathlib.Core.List.{List, _++_}
 use mathlib.Core.Path.{_≡_}
 use lib.Dec.{ltb}
-use Rattle.machine.specs.Actions.{Action, Driving, Halting, Switching, Hearing, Passing}
+use Rattle.machine.specs.Actions.{Action, Driving, Halting, SwitchingOff, ReadingWord, Passing}
 use Rattle.machine.specs.Legs.{Leg}
-use Rattle.machine.specs.Places.{count-of, known-legs}
+use Rattle.machine.specs.LegNumbers.{count-of, known-legs}
 use Rattle.layers.specs.declared.pair.Pair.{Pair}
 use Rattle.layers.specs.declared.pair.Part.{Part}
 use Rattle.layers.specs.declared.pair.Part.the-variants.{First, Second, Missing}
@@ -36,6 +37,6 @@ Both-parts does₁ does₂ a x y = does₁ (x .first) a (y .first) × does₂ (x
 abbrev pub pair-does : {M N : Type 0} → (M → List Leg) → (M → Action → M → Type 0) → (N → Action → N → Type 0) → Pair M N → Action → Pair M N → Type 0
 pair-does meaning₁ does₁ does₂ x (Driving e) y = Both-parts does₁ does₂ (Driving e) x y
 pair-does meaning₁ does₁ does₂ x Halting y = Both-parts does₁ does₂ Halting x y
-pair-does meaning₁ does₁ does₂ x (Switching k) y = One-part does₁ does₂ (part-of (count-of (meaning₁ (x .first))) k) Switching x y
-pair-does meaning₁ does₁ does₂ x (Hearing k w) y = One-part does₁ does₂ (part-of (count-of (meaning₁ (x .first))) k) (λ j. Hearing j w) x y
+pair-does meaning₁ does₁ does₂ x (SwitchingOff k) y = One-part does₁ does₂ (part-of (count-of (meaning₁ (x .first))) k) SwitchingOff x y
+pair-does meaning₁ does₁ does₂ x (ReadingWord k w) y = One-part does₁ does₂ (part-of (count-of (meaning₁ (x .first))) k) (λ j. ReadingWord j w) x y
 pair-does meaning₁ does₁ does₂ x Passing y = Both-parts does₁ does₂ Passing x y

@@ -5,13 +5,9 @@ use legs::Drive;
 use legs::End;
 use legs::Position;
 use legs::ReadRefusal;
+use machine::KNOWN_LEGS;
+use machine::MOST_COUNTED;
 use machine::Machine;
-
-// No leg with a higher number can be asked for.
-const HIGHEST_LEG: u16 = 4;
-
-// No machine counts more legs than this, however many it has.
-const HIGHEST_COUNT: u16 = 6;
 
 #[derive(Drop)]
 pub struct Pair<A, B> {
@@ -47,7 +43,7 @@ pub enum Part {
 fn part_of(first_count: u16, leg: u16) -> Part
     ensures { λ r. ⌜ r ≡ part-of «first_count» leg ⌝ }
 {
-    if leg > HIGHEST_LEG {
+    if leg >= KNOWN_LEGS {
         Part::Missing
     } else if leg < first_count {
         Part::First(leg)
@@ -62,7 +58,7 @@ pub impl<A: Machine, B: Machine> Machine for Pair<A, B> as PairMachine {
     ghost does = { pair-does (A·Machine .meaning) (A·Machine .does) (B·Machine .does) };
 
     fn count(&self) -> u16 {
-        (self.first.count() + self.second.count()).min(HIGHEST_COUNT)
+        (self.first.count() + self.second.count()).min(MOST_COUNTED)
     }
 
     fn show(&self, leg: u16) -> Position {

@@ -1,8 +1,9 @@
 -- What several legs show together.
--- all-show  every one of the positions is this one
--- some-show at least one of them is
--- combined  an end if every leg shows it; trailed if some leg is; else no end position
--- joined    the same of two groups, each by what it shows together
+-- same-position  the two have one letter
+-- all-show       every one of the positions is this one
+-- some-show      at least one of them is
+-- combined       an end if every leg shows it; trailed if some leg is; else no end position. Meant for at least one leg
+-- joined         the same of two positions
 use mathlib.Core.Bool.{Bool, true, false, cond, _&&_, _||_}
 use mathlib.Core.List.{List, [], _∷_}
 use lib.Dec.{eqb}

@@ -1,4 +1,4 @@
-// What the motor of a leg is told.
+// What the motor of a leg is commanded to do.
 ghost use mathlib.Core.Path.{_≡_};
 ghost use Rattle.legs.specs.Crossing.{opposite-drive};
 ghost use Rattle.legs.specs.Ends.{reached};

@@ -1,6 +1,7 @@
 // Where a point can be ordered to go.
 ghost use mathlib.Core.Path.{_≡_};
 ghost use Rattle.legs.specs.Crossing.{opposite-end};
+ghost use Rattle.legs.specs.Letters.{end-letter};
 ghost use Rattle.legs.specs.Ends.{drive-towards, position-at};
 use crate::drive::Drive;
 use crate::position::Position;
@@ -12,6 +13,16 @@ pub enum End {
 }
 
 impl End {
+    // The letter that stands for this end in every output.
+    pub fn letter(self) -> char
+        ensures { λ r. ⌜ r ≡ end-letter self ⌝ }
+    {
+        match self {
+            End::Left => 'L',
+            End::Right => 'R',
+        }
+    }
+
     // The drive that moves a leg to this end.
     pub fn drive(self) -> Drive
         ensures { λ r. ⌜ r ≡ drive-towards self ⌝ }

@@ -37,7 +37,7 @@ impl Position {
         }
     }
 
-    // What a group that shows this position shows together with one that shows another.
+    // What two legs show together, or a group of legs and one more.
     pub fn join(self, other: Position) -> Position
         ensures { λ r. ⌜ r ≡ joined self other ⌝ }
     {

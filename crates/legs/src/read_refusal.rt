@@ -9,7 +9,7 @@ pub enum ReadRefusal {
 }
 
 impl ReadRefusal {
-    // The number under which this refusal is told.
+    // The number by which this refusal is known.
     pub fn number(self) -> u8
         ensures { λ r. ⌜ r ≡ read-refusal-number self ⌝ }
     {

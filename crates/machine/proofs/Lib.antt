@@ -1,4 +1,4 @@
 pub mod Together
 pub mod OneLeg
-pub mod Places
+pub mod LegNumbers
 pub mod Effects

@@ -1,6 +1,6 @@
 -- One more leg: what a group shows together, joined with what the next leg shows.
 -- A group of legs is all left, all right, or neither; only in the last case can a leg be trailed.
-use mathlib.Core.Bool.{Bool, true, false, cond, _&&_, _||_}
+use mathlib.Core.Bool.{Bool, true, false, cond, _&&_, _||_, and-true, or-false, and-assoc, or-assoc}
 use mathlib.Core.List.{List, [], _∷_, _++_}
 use mathlib.Core.Path.{_≡_, refl, sym, ap, _∙_}
 use mathlib.Core.Logic.{⊎-elim}
@@ -14,7 +14,7 @@ use Rattle.std.specs.declared.option.Option.the-variants.{Some}
 use Rattle.legs.specs.declared.position.Position.{Position}
 use Rattle.legs.specs.declared.position.Position.the-variants.{Left, Right, NoEndPosition, Trailed}
 use Rattle.machine.specs.Legs.{Leg, positions}
-use Rattle.machine.specs.Places.{known-legs, known-part, leg-at, shown-at, shown-of}
+use Rattle.machine.specs.LegNumbers.{known-legs, known-part, leg-at, shown-at, shown-of}
 use Rattle.legs.specs.Combined.{same-position, all-show, some-show, combined, joined}
 
 data Group : Bool → Bool → Bool → Type 0 where
@@ -50,22 +50,6 @@ alone Trailed = one-trailed
 group : (p : Position) (ps : List Position) → Group (all-show Left (p ∷ ps)) (all-show Right (p ∷ ps)) (some-show Trailed (p ∷ ps))
 group p [] = alone p
 group p (q ∷ qs) = grown p (group q qs)
-
-and-true : (a : Bool) → (a && true) ≡ a
-and-true true = refl
-and-true false = refl
-
-or-false : (a : Bool) → (a || false) ≡ a
-or-false true = refl
-or-false false = refl
-
-and-assoc : (a b c : Bool) → ((a && b) && c) ≡ (a && (b && c))
-and-assoc true b c = refl
-and-assoc false b c = refl
-
-or-assoc : (a b c : Bool) → ((a || b) || c) ≡ (a || (b || c))
-or-assoc true b c = refl
-or-assoc false b c = refl
 
 all-push : (x : Position) (ps : List Position) (p : Position) → all-show x (ps ++ (p ∷ [])) ≡ (all-show x ps && same-position x p)
 all-push x [] p = and-true (same-position x p)

@@ -1,6 +1,6 @@
 -- What a machine means: the list of its legs, leg 0 first.
 -- Leg            what a leg shows, how it is driven, and which words it reads
--- leg-of         a leg by these three; nothing else writes one out
+-- leg-of         the leg of a make of one leg
 -- with-position  the leg, showing this
 -- with-drive     the leg, driven like this
 -- frame          all of a leg but what it shows
@@ -24,10 +24,10 @@ abbrev pub leg-of : Position → Drive → (ℕ → Bool) → Leg
 leg-of p d r = record { shows = p; driven = d; reads = r }
 
 abbrev pub with-position : Position → Leg → Leg
-with-position p l = leg-of p (l .driven) (l .reads)
+with-position p l = record { shows = p; driven = l .driven; reads = l .reads }
 
 abbrev pub with-drive : Drive → Leg → Leg
-with-drive d l = leg-of (l .shows) d (l .reads)
+with-drive d l = record { shows = l .shows; driven = d; reads = l .reads }
 
 abbrev pub frame : Leg → Leg
 frame l = with-position NoEndPosition l

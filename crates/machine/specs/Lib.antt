@@ -1,5 +1,5 @@
 pub mod Legs
-pub mod Places
+pub mod LegNumbers
 pub mod Actions
 pub mod Laws
-pub mod Motors
+pub mod SingleLegs

@@ -4,12 +4,10 @@ ghost use lib.ListN.{length};
 ghost use mathlib.Core.Path.{_≡_};
 ghost use Rattle.legs.specs.Combined.{combined};
 ghost use Rattle.machine.specs.Legs.{positions};
-ghost use Rattle.machine.specs.Places.{known-legs, known-part};
+ghost use Rattle.machine.specs.LegNumbers.{known-legs, known-part};
+use crate::interface::KNOWN_LEGS;
 use crate::interface::Machine;
 use legs::Position;
-
-// Legs with a higher number than 4 cannot be asked one by one.
-const KNOWN_LEGS: u16 = 5;
 
 // The position that legs 0 to 4 make together; for a machine of at most five legs that is all of them.
 pub fn combined_position<M: Machine>(machine: &M) -> Position

@@ -2,10 +2,12 @@
 mod combined;
 mod interface;
 mod laws;
-mod motor;
+mod single_leg;
 
 pub use combined::combined_position;
+pub use interface::KNOWN_LEGS;
+pub use interface::MOST_COUNTED;
 pub use interface::Machine;
 pub use laws::legs_are_fixed;
-pub use motor::Motor;
-pub use motor::MotorMachine;
+pub use single_leg::SingleLeg;
+pub use single_leg::SingleLegMachine;

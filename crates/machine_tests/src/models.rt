@@ -10,9 +10,9 @@ use legs::Position;
 use legs::PositionDebug;
 use legs::PositionPartialEq;
 use machine::Machine;
-use machine::MotorMachine;
+use machine::SingleLegMachine;
 use makes::Model;
-use makes::ModelMotor;
+use makes::ModelLeg;
 use std::test::*;
 
 // A travel as given, and the ticks that a throw then takes.

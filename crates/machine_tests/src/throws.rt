@@ -4,7 +4,7 @@ ghost use mathlib.Core.Path.{_≡_};
 ghost use Rattle.legs.specs.Combined.{combined};
 ghost use Rattle.legs.specs.Ends.{position-at};
 ghost use Rattle.machine.specs.Legs.{positions};
-ghost use Rattle.machine.specs.Places.{known-part};
+ghost use Rattle.machine.specs.LegNumbers.{known-part};
 ghost use Rattle.std.specs.Options.{Cases};
 use legs::End;
 use legs::PositionPartialEq;

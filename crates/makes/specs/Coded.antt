@@ -1,8 +1,9 @@
 -- The coded make.
--- code-word    the word that carries a code: the code in the high byte, what it lacks of 255 in the low one
--- code-table   what each code says, from code 0 on
--- coded-says   what a word says: the position whose code it carries, or nothing
--- new-coded    how it starts
+-- code-word     the word that carries a code: the code in the high byte, what it lacks of 255 in the low one
+-- code-table    what each code shows, from code 0 on
+-- decode-from   what a word shows, if it carries one of these codes, the first of which has this number
+-- decode-coded  what a word shows, or nothing where it is unreadable
+-- new-coded     how it starts
 use Prim.Native.Nat.{ℕ, _+_, _-_, _*_}
 use mathlib.Core.Bool.{cond}
 use mathlib.Core.List.{List, [], _∷_}
@@ -21,13 +22,12 @@ code-word c = 256 * c + (255 - c)
 abbrev pub code-table : List Position
 code-table = NoEndPosition ∷ (Left ∷ (Right ∷ (Trailed ∷ [])))
 
--- the first code, from this one on, whose word it is
-abbrev pub says-from : ℕ → List Position → ℕ → Option Position
-says-from c [] w = None
-says-from c (p ∷ ps) w = cond (eqb w (code-word c)) (Some p) (says-from (c + 1) ps w)
+abbrev pub decode-from : ℕ → List Position → ℕ → Option Position
+decode-from c [] w = None
+decode-from c (p ∷ ps) w = cond (eqb w (code-word c)) (Some p) (decode-from (c + 1) ps w)
 
-abbrev pub coded-says : ℕ → Option Position
-coded-says w = says-from 0 code-table w
+abbrev pub decode-coded : ℕ → Option Position
+decode-coded w = decode-from 0 code-table w
 
 abbrev pub new-coded : Detected CodedWords
 new-coded = new-detected (record {})

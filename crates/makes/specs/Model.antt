@@ -1,10 +1,13 @@
 -- The model, a simulated leg.
--- in-range      a number brought into a range: the nearer bound where it lies outside
--- place-shows   the left end at place 0, the right end at the travel, else none
--- place-after   one place towards the driven end, until it is there
--- model-leg     its leg: words up to the travel are places
--- new-model     how it starts; then its value after a drive, a word and a tick
-use Prim.Native.Nat.{ℕ, _+_, _-_, _≤_, min, max}
+-- in-range       a number brought into a range: the nearer bound where it lies outside
+-- place-shows    the left end at place 0, the right end at the travel, else none
+-- place-after    one place towards the driven end, until it is there
+-- model-leg      its leg: words up to the travel are places
+-- new-model      how it starts
+-- model-driving  its value after it was given a drive
+-- model-reading  its value after a word
+-- model-passing  its value after a tick
+use Prim.Native.Nat.{ℕ, _+_, _-_, min, max}
 use mathlib.Core.Bool.{cond}
 use lib.Dec.{eqb, leb, ltb}
 use Rattle.legs.specs.declared.position.Position.{Position}
@@ -31,11 +34,11 @@ model-leg x = leg-of (place-shows (x .place) (x .travel)) (x .drive) (λ w. leb 
 abbrev pub new-model : ℕ → Model
 new-model d = record { travel = in-range 1 600 d; place = 0; drive = Off }
 
-abbrev pub model-driven : Drive → Model → Model
-model-driven d x = record { travel = x .travel; place = x .place; drive = d }
+abbrev pub model-driving : Drive → Model → Model
+model-driving d x = record { travel = x .travel; place = x .place; drive = d }
 
-abbrev pub model-heard : ℕ → Model → Model
-model-heard w x = record { travel = x .travel; place = cond (leb w (x .travel)) w (x .place); drive = x .drive }
+abbrev pub model-reading : ℕ → Model → Model
+model-reading w x = record { travel = x .travel; place = cond (leb w (x .travel)) w (x .place); drive = x .drive }
 
-abbrev pub model-passed : Model → Model
-model-passed x = record { travel = x .travel; place = place-after (x .drive) (x .place) (x .travel); drive = x .drive }
+abbrev pub model-passing : Model → Model
+model-passing x = record { travel = x .travel; place = place-after (x .drive) (x .place) (x .travel); drive = x .drive }

@@ -1,7 +1,7 @@
 -- The wired make.
--- wired-table  what each word says, from word 0 on; what follows is unreadable too
--- wired-says   what a word says, or nothing
--- new-wired    how it starts
+-- wired-table   what each word shows, from word 0 on
+-- decode-wired  what a word shows, or nothing where it is unreadable, as are all words past the table
+-- new-wired     how it starts
 use Prim.Native.Nat.{ℕ}
 use mathlib.Core.List.{List, [], _∷_}
 use lib.ListN.{getD}
@@ -17,8 +17,8 @@ abbrev pub wired-table : List (Option Position)
 wired-table =
     Some NoEndPosition ∷ (Some Left ∷ (Some Right ∷ (None ∷ (Some Trailed ∷ (Some Trailed ∷ (Some Trailed ∷ (Some Trailed ∷ [])))))))
 
-abbrev pub wired-says : ℕ → Option Position
-wired-says w = getD wired-table w None
+abbrev pub decode-wired : ℕ → Option Position
+decode-wired w = getD wired-table w None
 
 abbrev pub new-wired : Detected WiredWords
 new-wired = new-detected (record {})

@@ -1,6 +1,6 @@
 // A leg whose detector sends a code in the high byte of a word, and in the low byte what the code lacks of 255.
 ghost use mathlib.Core.Path.{_≡_};
-ghost use Rattle.makes.specs.Coded.{coded-says, new-coded};
+ghost use Rattle.makes.specs.Coded.{decode-coded, new-coded};
 use crate::detected::Decoder;
 use crate::detected::Detected;
 use legs::Position;
@@ -19,7 +19,7 @@ impl Detected<CodedWords> {
 }
 
 pub impl Decoder for CodedWords as CodedDecoder {
-    ghost says = { coded-says };
+    ghost decodes = { decode-coded };
 
     // A word is readable if its two bytes agree and there is such a code.
     fn decode(&self, word: u16) -> Option<Position> {

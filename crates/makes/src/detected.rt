@@ -2,19 +2,19 @@
 ghost use Prim.Native.Nat.{ℕ};
 ghost use mathlib.Core.Path.{_≡_};
 ghost use Rattle.legs.specs.declared.position.Position.{Position};
-ghost use Rattle.makes.specs.Detected.{detected-driven, detected-heard, detected-leg, detected-passed, new-detected};
+ghost use Rattle.makes.specs.Detected.{detected-driving, detected-reading, detected-leg, detected-passing, new-detected};
 ghost use Rattle.std.specs.declared.option.Option.{Option};
 use legs::Drive;
 use legs::Position;
-use machine::Motor;
+use machine::SingleLeg;
 
 // How a detector writes positions into words.
 pub trait Decoder {
-    // What a word says, or nothing where it is unreadable.
-    ghost says: { ℕ → Option Position };
+    // What a word shows, or nothing where it is unreadable.
+    ghost decodes: { ℕ → Option Position };
 
     fn decode(&self, word: u16) -> Option<Position>
-        ensures { λ r. ⌜ r ≡ says word ⌝ };
+        ensures { λ r. ⌜ r ≡ decodes word ⌝ };
 }
 
 #[derive(Drop)]
@@ -37,14 +37,14 @@ impl<D> Detected<D> {
     }
 }
 
-pub impl<D: Decoder> Motor for Detected<D> as DetectedMotor {
-    ghost leg = { detected-leg (D·Decoder .says) };
+pub impl<D: Decoder> SingleLeg for Detected<D> as DetectedLeg {
+    ghost leg = { detected-leg (D·Decoder .decodes) };
 
-    ghost driven = { detected-driven };
+    ghost driving = { detected-driving };
 
-    ghost heard = { detected-heard (D·Decoder .says) };
+    ghost reading = { detected-reading (D·Decoder .decodes) };
 
-    ghost passed = { detected-passed };
+    ghost passing = { detected-passing };
 
     fn position(&self) -> Position {
         self.position

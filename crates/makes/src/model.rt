@@ -1,10 +1,10 @@
 // A simulated leg: a tongue that takes a known number of ticks from end to end.
 ghost use mathlib.Core.Path.{_≡_};
-ghost use Rattle.makes.specs.Throws.{Arrives, Stays-sound};
-ghost use Rattle.makes.specs.Model.{model-driven, model-heard, model-leg, model-passed, new-model};
+ghost use Rattle.makes.specs.Throws.{Arrives, Stays-in-range};
+ghost use Rattle.makes.specs.Model.{model-driving, model-reading, model-leg, model-passing, new-model};
 use legs::Drive;
 use legs::Position;
-use machine::Motor;
+use machine::SingleLeg;
 
 const LONGEST_TRAVEL: u16 = 600;
 
@@ -29,14 +29,14 @@ impl Model {
     }
 }
 
-pub impl Motor for Model as ModelMotor {
+pub impl SingleLeg for Model as ModelLeg {
     ghost leg = { model-leg };
 
-    ghost driven = { model-driven };
+    ghost driving = { model-driving };
 
-    ghost heard = { model-heard };
+    ghost reading = { model-reading };
 
-    ghost passed = { model-passed };
+    ghost passing = { model-passing };
 
     fn position(&self) -> Position {
         if self.place == 0 {
@@ -56,7 +56,6 @@ pub impl Motor for Model as ModelMotor {
         self.drive = drive;
     }
 
-    // A word sets the place.
     fn take_word(&mut self, word: u16) -> bool {
         if word > self.travel {
             return false;
@@ -76,8 +75,8 @@ pub impl Motor for Model as ModelMotor {
 }
 
 // A model never leaves its range.
-pub fn model_stays_sound()
-    ensures { λ _. ⌜ Stays-sound ⌝ }
+pub fn model_stays_in_range()
+    ensures { λ _. ⌜ Stays-in-range ⌝ }
 {}
 
 // A model reaches an end on the very tick that the way to it needs.

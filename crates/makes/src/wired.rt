@@ -1,6 +1,6 @@
 // A leg whose detector contacts are wired straight to the bits of a word.
 ghost use mathlib.Core.Path.{_≡_};
-ghost use Rattle.makes.specs.Wired.{new-wired, wired-says};
+ghost use Rattle.makes.specs.Wired.{new-wired, decode-wired};
 use crate::detected::Decoder;
 use crate::detected::Detected;
 use legs::Position;
@@ -20,7 +20,7 @@ impl Detected<WiredWords> {
 }
 
 pub impl Decoder for WiredWords as WiredDecoder {
-    ghost says = { wired-says };
+    ghost decodes = { decode-wired };
 
     fn decode(&self, word: u16) -> Option<Position> {
         match word {

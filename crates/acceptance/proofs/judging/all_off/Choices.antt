@@ -1,7 +1,7 @@
 use mathlib.Core.Path.{_≡_}
 use Prim.Native.Nat.{ℕ, _<_}
 use Rattle.legs.specs.declared.drive.Drive.the-variants.{Off}
-use Rattle.machine.specs.Places.{driven-at}
+use Rattle.machine.specs.LegNumbers.{driven-at}
 use Rattle.acceptance.proofs.judging.all_off.Given as given
 
 abbrev pub Inv-loop-leg : given.InvT-loop-leg

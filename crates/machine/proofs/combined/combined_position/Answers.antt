@@ -5,7 +5,7 @@ use lib.ListN.{length}
 use Rattle.std.proofs.shelf.Lists.{take-all}
 use Rattle.legs.specs.Combined.{combined, joined}
 use Rattle.machine.specs.Legs.{positions}
-use Rattle.machine.specs.Places.{known-legs, known-part}
+use Rattle.machine.specs.LegNumbers.{known-legs, known-part}
 use Rattle.machine.proofs.Together.{first-shown, next-shown, known-taken}
 use Rattle.machine.proofs.combined.combined_position.Needs as need
 

@@ -1,5 +1,5 @@
 use borrow.Author.Needs.{needs}
-use Rattle.machine.specs.Places.{driven-of}
+use Rattle.machine.specs.LegNumbers.{driven-of}
 use Rattle.layers.proofs.Parts.{from-first, from-second}
 use Rattle.layers.proofs.pair.PairMachine.driven.Needs as need
 

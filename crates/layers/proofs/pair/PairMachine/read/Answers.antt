@@ -1,7 +1,7 @@
 use borrow.Author.Needs.{needs}
 use mathlib.Core.Path.{refl, ap}
 use Rattle.std.proofs.shelf.Results.{cases-weaker}
-use Rattle.machine.specs.Places.{answer-of}
+use Rattle.machine.specs.LegNumbers.{answer-of}
 use Rattle.layers.specs.declared.pair.Part.the-variants.{First, Second}
 use Rattle.layers.specs.Pair.{pair}
 use Rattle.layers.proofs.Parts.{found-part, from-first, from-second}

@@ -1,5 +1,5 @@
 use borrow.Author.Needs.{needs}
-use Rattle.machine.specs.Places.{shown-of}
+use Rattle.machine.specs.LegNumbers.{shown-of}
 use Rattle.layers.proofs.Parts.{from-first, from-second}
 use Rattle.layers.proofs.pair.PairMachine.show.Needs as need
 

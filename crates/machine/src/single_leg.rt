@@ -4,7 +4,7 @@ ghost use mathlib.Core.Bool.{cond};
 ghost use mathlib.Core.Path.{_≡_};
 ghost use Rattle.legs.specs.declared.drive.Drive.{Drive};
 ghost use Rattle.machine.specs.Legs.{Leg};
-ghost use Rattle.machine.specs.Motors.{MotorLaws, motor-after, motor-legs};
+ghost use Rattle.machine.specs.SingleLegs.{SingleLaws, single-does, single-legs};
 use crate::interface::Machine;
 use legs::Drive;
 use legs::End;
@@ -12,41 +12,47 @@ use legs::Position;
 use legs::ReadRefusal;
 
 // What the makes of one leg differ in. Each is a machine by this alone.
-pub trait Motor {
+pub trait SingleLeg {
     // The one leg.
     ghost leg: { Self → Leg };
 
-    // The value after it was given a drive, after a word that it reads, and after a tick.
-    ghost driven: { Drive → Self → Self };
+    // The value after it was given this drive.
+    ghost driving: { Drive → Self → Self };
 
-    ghost heard: { ℕ → Self → Self };
+    // The value after this word, if the leg reads it.
+    ghost reading: { ℕ → Self → Self };
 
-    ghost passed: { Self → Self };
+    // The value after a tick.
+    ghost passing: { Self → Self };
 
-    law kept: { MotorLaws leg driven heard passed };
+    law kept: { SingleLaws leg driving reading passing };
 
+    // What the leg shows.
     fn position(&self) -> Position
         ensures { λ r. ⌜ r ≡ leg (now (self .entry)) .shows ⌝ };
 
+    // How the leg is driven.
     fn current_drive(&self) -> Drive
         ensures { λ r. ⌜ r ≡ leg (now (self .entry)) .driven ⌝ };
 
+    // Drives the leg like this, or switches it off.
     fn set_drive(&mut self, drive: Drive)
-        ensures { λ _. ⌜ now (self .exit) ≡ driven drive (now (self .entry)) ⌝ };
+        ensures { λ _. ⌜ now (self .exit) ≡ driving drive (now (self .entry)) ⌝ };
 
     // Takes a word, or answers false where it is unreadable and keeps all.
     fn take_word(&mut self, word: u16) -> bool
         ensures answer { λ r. ⌜ r ≡ leg (now (self .entry)) .reads word ⌝ }
-        ensures after { λ r. ⌜ now (self .exit) ≡ cond r (heard word (now (self .entry))) (now (self .entry)) ⌝ };
+        ensures after { λ r. ⌜ now (self .exit) ≡ cond r (reading word (now (self .entry))) (now (self .entry)) ⌝ };
 
+    // Lets one tick pass.
     fn pass_tick(&mut self)
-        ensures { λ _. ⌜ now (self .exit) ≡ passed (now (self .entry)) ⌝ };
+        ensures { λ _. ⌜ now (self .exit) ≡ passing (now (self .entry)) ⌝ };
 }
 
-pub impl<M: Motor> Machine for M as MotorMachine {
-    ghost meaning = { motor-legs (M·Motor .leg) };
+pub impl<M: SingleLeg> Machine for M as SingleLegMachine {
+    ghost meaning = { single-legs (M·SingleLeg .leg) };
 
-    ghost does = { λ x a y. y ≡ motor-after (M·Motor .driven) (M·Motor .heard) (M·Motor .passed) a x };
+    ghost does = { single-does (M·SingleLeg .driving) (M·SingleLeg .reading) (M·SingleLeg .passing) };
 
     fn count(&self) -> u16 {
         1

@@ -10,7 +10,7 @@ use Rattle.std.specs.Options.{mapped}
 use Rattle.std.specs.Runs.{nth}
 use Rattle.std.specs.declared.option.Option.the-variants.{None}
 use Rattle.machine.specs.Legs.{Leg}
-use Rattle.machine.specs.Places.{known-legs, leg-at, at-place, at-leg}
+use Rattle.machine.specs.LegNumbers.{known-legs, leg-at, at-index, at-leg}
 
 pub nth-map : {X Y : Type 0} (f : X → Y) (xs : List X) (k : ℕ) → nth (map f xs) k ≡ mapped f (nth xs k)
 nth-map f [] k = refl
@@ -29,22 +29,22 @@ nth-back (x ∷ xs) ys (suc k) h =
     let less : suc k - suc (length xs) ≡ k - length xs = omega arith in
     rw less (nth-back xs ys k (omega arith))
 
-pub at-place-map : {X Y : Type 0} (h : X → Y) (f : X → X) (g : Y → Y) → ((x : X) → h (f x) ≡ g (h x)) → (k : ℕ) (xs : List X) → map h (at-place f k xs) ≡ at-place g k (map h xs)
-at-place-map h f g same k [] = refl
-at-place-map h f g same zero (x ∷ xs) = ap (λ y. y ∷ map h xs) (same x)
-at-place-map h f g same (suc k) (x ∷ xs) = ap (λ ys. h x ∷ ys) (at-place-map h f g same k xs)
+pub at-index-map : {X Y : Type 0} (h : X → Y) (f : X → X) (g : Y → Y) → ((x : X) → h (f x) ≡ g (h x)) → (k : ℕ) (xs : List X) → map h (at-index f k xs) ≡ at-index g k (map h xs)
+at-index-map h f g same k [] = refl
+at-index-map h f g same zero (x ∷ xs) = ap (λ y. y ∷ map h xs) (same x)
+at-index-map h f g same (suc k) (x ∷ xs) = ap (λ ys. h x ∷ ys) (at-index-map h f g same k xs)
 
-pub at-place-front : {X : Type 0} (f : X → X) (xs ys : List X) (k : ℕ) → k < length xs → at-place f k (xs ++ ys) ≡ at-place f k xs ++ ys
-at-place-front f [] ys k h = absurd (omega arith)
-at-place-front f (x ∷ xs) ys zero h = refl
-at-place-front f (x ∷ xs) ys (suc k) h = ap (λ zs. x ∷ zs) (at-place-front f xs ys k (omega arith))
+pub at-index-front : {X : Type 0} (f : X → X) (xs ys : List X) (k : ℕ) → k < length xs → at-index f k (xs ++ ys) ≡ at-index f k xs ++ ys
+at-index-front f [] ys k h = absurd (omega arith)
+at-index-front f (x ∷ xs) ys zero h = refl
+at-index-front f (x ∷ xs) ys (suc k) h = ap (λ zs. x ∷ zs) (at-index-front f xs ys k (omega arith))
 
-pub at-place-back : {X : Type 0} (f : X → X) (xs ys : List X) (k : ℕ) → length xs ≤ k → at-place f k (xs ++ ys) ≡ xs ++ at-place f (k - length xs) ys
-at-place-back f [] ys k h = ap (λ n. at-place f n ys) (omega arith)
-at-place-back f (x ∷ xs) ys zero h = absurd (omega arith)
-at-place-back f (x ∷ xs) ys (suc k) h =
+pub at-index-back : {X : Type 0} (f : X → X) (xs ys : List X) (k : ℕ) → length xs ≤ k → at-index f k (xs ++ ys) ≡ xs ++ at-index f (k - length xs) ys
+at-index-back f [] ys k h = ap (λ n. at-index f n ys) (omega arith)
+at-index-back f (x ∷ xs) ys zero h = absurd (omega arith)
+at-index-back f (x ∷ xs) ys (suc k) h =
     let less : suc k - suc (length xs) ≡ k - length xs = omega arith in
-    rw less (ap (λ zs. x ∷ zs) (at-place-back f xs ys k (omega arith)))
+    rw less (ap (λ zs. x ∷ zs) (at-index-back f xs ys k (omega arith)))
 
 -- a test that chooses between two things, and what is then done to the one chosen
 cond-map : {X Y : Type 0} (f : X → Y) (b : Bool) (x y : X) → f (cond b x y) ≡ cond b (f x) (f y)
@@ -59,13 +59,13 @@ pub leg-at-map : (f : Leg → Leg) (m : List Leg) (k : ℕ) → leg-at (map f m)
 leg-at-map f m k = rw (cond-map (mapped f) (ltb k known-legs) (nth m k) None, nth-map f m k) refl
 
 pub at-leg-map : (h f g : Leg → Leg) → ((l : Leg) → h (f l) ≡ g (h l)) → (k : ℕ) (m : List Leg) → map h (at-leg f k m) ≡ at-leg g k (map h m)
-at-leg-map h f g same k m = rw (cond-map (map h) (ltb k known-legs) (at-place f k m) m, at-place-map h f g same k m) refl
+at-leg-map h f g same k m = rw (cond-map (map h) (ltb k known-legs) (at-index f k m) m, at-index-map h f g same k m) refl
 
 -- what the change of one leg keeps of every leg
-pub at-place-keeps : {X Y : Type 0} (q : X → Y) (f : X → X) → ((x : X) → q (f x) ≡ q x) → (k : ℕ) (xs : List X) → map q (at-place f k xs) ≡ map q xs
-at-place-keeps q f same k [] = refl
-at-place-keeps q f same zero (x ∷ xs) = ap (λ y. y ∷ map q xs) (same x)
-at-place-keeps q f same (suc k) (x ∷ xs) = ap (λ ys. q x ∷ ys) (at-place-keeps q f same k xs)
+pub at-index-keeps : {X Y : Type 0} (q : X → Y) (f : X → X) → ((x : X) → q (f x) ≡ q x) → (k : ℕ) (xs : List X) → map q (at-index f k xs) ≡ map q xs
+at-index-keeps q f same k [] = refl
+at-index-keeps q f same zero (x ∷ xs) = ap (λ y. y ∷ map q xs) (same x)
+at-index-keeps q f same (suc k) (x ∷ xs) = ap (λ ys. q x ∷ ys) (at-index-keeps q f same k xs)
 
 pub at-leg-keeps : {Y : Type 0} (q : Leg → Y) (f : Leg → Leg) → ((l : Leg) → q (f l) ≡ q l) → (k : ℕ) (m : List Leg) → map q (at-leg f k m) ≡ map q m
-at-leg-keeps q f same k m = rw (cond-map (map q) (ltb k known-legs) (at-place f k m) m, at-place-keeps q f same k m) (cond-same (ltb k known-legs) (map q m))
+at-leg-keeps q f same k m = rw (cond-map (map q) (ltb k known-legs) (at-index f k m) m, at-index-keeps q f same k m) (cond-same (ltb k known-legs) (map q m))

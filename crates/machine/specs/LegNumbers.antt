@@ -1,12 +1,15 @@
 -- Legs by their numbers. Callers know legs 0 to 4: any other number is a missing leg.
 -- known-legs   how many legs have a number that callers can use
 -- known-part   those legs
--- count-of     how many legs there are, but never more than 6
+-- most-counted the highest count that is given
+-- count-of     how many legs there are, as far as they are counted
 -- leg-at       the leg with this number, or none if it is missing
--- shown-at     what it shows; a missing leg shows no end position
--- driven-at    how it is driven; a missing leg is off
--- read-answer  whether a word for it is taken: the leg first, then the word
--- at-leg       the legs, with this done to the one of this number
+-- shown-of     what such a leg shows; a missing leg shows no end position
+-- driven-of    how it is driven; a missing leg is off
+-- answer-of    whether it reads a word: the leg is looked at first, then the word
+-- shown-at, driven-at, read-answer   these three of the leg with a number
+-- at-index     a list with this done to the element of this number
+-- at-leg       the legs with this done to the leg of this number; nothing for a missing leg
 use Prim.Native.Nat.{ℕ, zero, suc, min}
 use mathlib.Core.Bool.{cond}
 use mathlib.Core.List.{List, [], _∷_}
@@ -31,8 +34,11 @@ known-legs = 5
 abbrev pub known-part : List Leg → List Leg
 known-part m = take known-legs m
 
+abbrev pub most-counted : ℕ
+most-counted = 6
+
 abbrev pub count-of : List Leg → ℕ
-count-of m = min 6 (length m)
+count-of m = min most-counted (length m)
 
 abbrev pub leg-at : List Leg → ℕ → Option Leg
 leg-at m k = cond (ltb k known-legs) (nth m k) None
@@ -58,10 +64,10 @@ driven-at m k = driven-of (leg-at m k)
 abbrev pub read-answer : List Leg → ℕ → ℕ → Result Unit ReadRefusal
 read-answer m k w = answer-of (leg-at m k) w
 
-abbrev pub at-place : {X : Type 0} → (X → X) → ℕ → List X → List X
-at-place f k [] = []
-at-place f zero (x ∷ xs) = f x ∷ xs
-at-place f (suc k) (x ∷ xs) = x ∷ at-place f k xs
+abbrev pub at-index : {X : Type 0} → (X → X) → ℕ → List X → List X
+at-index f k [] = []
+at-index f zero (x ∷ xs) = f x ∷ xs
+at-index f (suc k) (x ∷ xs) = x ∷ at-index f k xs
 
 abbrev pub at-leg : (Leg → Leg) → ℕ → List Leg → List Leg
-at-leg f k m = cond (ltb k known-legs) (at-place f k m) m
+at-leg f k m = cond (ltb k known-legs) (at-index f k m) m
