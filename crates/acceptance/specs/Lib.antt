@@ -1,3 +1,3 @@
-pub mod Judging
 pub mod Rigging
+pub mod Switching
 pub mod Throwing

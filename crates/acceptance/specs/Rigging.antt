@@ -1,4 +1,6 @@
--- The rig of the factory test: five models of travel 3, 4, 5, 1 and 6, the second one crossed.
+-- The rig of the factory test.
+-- Rigged       its type
+-- five-motors  five models of travel 3, 4, 5, 1 and 6, the second one crossed
 use Rattle.layers.specs.declared.crossed.Crossed.{Crossed}
 use Rattle.layers.specs.declared.pair.Pair.{Pair}
 use Rattle.layers.specs.Crossed.{crossed}

@@ -1,7 +1,7 @@
-// The factory test of a point with five motors: one throw to the right, one back to the left, and a line for all that happens.
-mod judging;
+// The factory test of a point with five motors, with a line for all that happens.
 mod printing;
 mod rigging;
+mod switching;
 mod throwing;
 
 use layers::CrossedMachine;
@@ -10,20 +10,27 @@ use legs::End;
 use machine::SingleLegMachine;
 use makes::ModelLeg;
 use printing::print_heading;
-use printing::print_legs;
+use printing::print_reversal;
+use printing::print_state;
 use printing::print_verdict;
+use printing::print_word;
 use rigging::five_motors;
-use rigging::set_out;
+use rigging::put_over;
 use std::io;
+use throwing::move_for;
 use throwing::throw;
 
 fn main(rt: LibcRuntime) -> io::Result<()> {
     let mut rig = five_motors();
     print_heading(&rt)?;
-    print!(rt, "rigged  ")?;
-    print_legs(&rt, &rig)?;
-    set_out(&rt, &mut rig)?;
-    let right = throw(&rt, &mut rig, End::Right)?;
-    let left = throw(&rt, &mut rig, End::Left)?;
-    print_verdict(&rt, &rig, right, left)
+    print_state(&rt, "rigged", &rig)?;
+    print_word(&rt, put_over(&mut rig))?;
+    print_state(&rt, "ready", &rig)?;
+    let right = throw(&rt, &mut rig, End::Right, 12)?;
+    let left = throw(&rt, &mut rig, End::Left, 6)?;
+    // The hard case: an order against a moving point, and the last leg there on the last tick.
+    let away = move_for(&rt, &mut rig, End::Right, 3)?;
+    print_reversal(&rt, away)?;
+    let back = throw(&rt, &mut rig, End::Left, 3)?;
+    print_verdict(&rt, &rig, [right, left, back])
 }

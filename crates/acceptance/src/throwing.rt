@@ -1,49 +1,56 @@
 // One throw: all legs driven to an end, each switched off as it arrives, until all are there or the time is over.
-ghost use Rattle.acceptance.specs.Throwing.{Ended};
+ghost use Rattle.acceptance.specs.Throwing.{Arrived, Thrown};
+ghost use Rattle.std.specs.Options.{Cases};
 ghost use Rattle.std.specs.Vec.{made};
-use crate::judging::stop_legs;
+use crate::printing::print_arrival;
 use crate::printing::print_command;
-use crate::printing::print_legs;
-use crate::printing::print_outcome;
+use crate::printing::print_state;
 use crate::printing::print_tick;
+use crate::printing::print_timeout;
+use crate::switching::switch_off_arrived;
 use legs::End;
 use legs::PositionPartialEq;
 use machine::Machine;
 use machine::combined_position;
 use std::io;
 
-// The longest travel on the rig: its leg arrives on the very last tick.
-pub const LIMIT: u16 = 6;
-
-// How a throw ended.
-#[derive(Clone, Copy, PartialEq, Eq)]
-pub enum Outcome {
-    Arrived(u16),
-    TimedOut,
-}
-
-pub fn throw<M: Machine>(rt: &impl Print, machine: &mut M, end: End) -> io::Result<Outcome>
-    ensures { λ r. ⌜ made r (λ outcome. Ended end outcome (meaning (now (machine .exit)))) ⌝ }
+// Drives all legs to an end and lets at most so many ticks pass. Answers on which one all were there.
+pub fn move_for<M: Machine>(
+    rt: &impl Print,
+    machine: &mut M,
+    end: End,
+    ticks: u16,
+) -> io::Result<Option<u16>>
+    ensures { λ r. ⌜ made r (λ o. Cases o (Unit {0}) (λ tick. Arrived ticks end tick (meaning (now (machine .exit))))) ⌝ }
 {
     machine.drive(end);
     print_command(rt, end)?;
-    print_legs(rt, machine)?;
-    let outcome = run_ticks(rt, machine, end)?;
-    print_outcome(rt, end, outcome)?;
-    Ok(outcome)
-}
-
-fn run_ticks<M: Machine>(rt: &impl Print, machine: &mut M, end: End) -> io::Result<Outcome>
-    ensures { λ r. ⌜ made r (λ outcome. Ended end outcome (meaning (now (machine .exit)))) ⌝ }
-{
-    for tick in 1..=LIMIT {
+    print_state(rt, "driven", machine)?;
+    for tick in 1..=ticks {
         machine.pass();
-        let stopped = stop_legs(machine);
-        print_tick(rt, tick, machine, &stopped)?;
+        let arrived = switch_off_arrived(machine);
+        print_tick(rt, tick, machine, &arrived)?;
         if combined_position(machine) == end.position() {
-            return Ok(Outcome::Arrived(tick));
+            return Ok(Some(tick));
         }
     }
-    machine.halt();
-    Ok(Outcome::TimedOut)
+    Ok(None)
+}
+
+// The same, and a halt where the time is over.
+pub fn throw<M: Machine>(
+    rt: &impl Print,
+    machine: &mut M,
+    end: End,
+    limit: u16,
+) -> io::Result<Option<u16>>
+    ensures { λ r. ⌜ made r (λ o. Thrown limit end o (meaning (now (machine .exit)))) ⌝ }
+{
+    let Some(tick) = move_for(rt, machine, end, limit)? else {
+        machine.halt();
+        print_timeout(rt, end, limit)?;
+        return Ok(None);
+    };
+    print_arrival(rt, end, tick, limit)?;
+    Ok(Some(tick))
 }
