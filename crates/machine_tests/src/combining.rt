@@ -1,4 +1,4 @@
-// What three legs show together.
+// What several legs show together.
 use layers::Pair;
 use layers::PairMachine;
 use legs::Position;
@@ -9,6 +9,8 @@ use machine::Machine;
 use machine::SingleLegMachine;
 use machine::combined_position;
 use makes::DetectedLeg;
+use makes::Model;
+use makes::ModelLeg;
 use makes::Wired;
 use makes::WiredDecoder;
 use std::test::*;
@@ -37,4 +39,21 @@ fn three_legs_together() -> Result<(), Fail> {
         check_eq(combined_position(&three), together)?;
     }
     Ok(())
+}
+
+// A sixth leg is not asked, whatever it shows.
+#[test]
+fn five_legs_and_a_sixth() -> Result<(), Fail> {
+    let five = Pair::new(
+        Pair::new(Wired::new(), Wired::new()),
+        Pair::new(Wired::new(), Pair::new(Wired::new(), Wired::new())),
+    );
+    let mut six = Pair::new(five, Model::new(3));
+    for leg in 0..5 {
+        check_eq(combined_position(&six), Position::NoEndPosition)?;
+        six.read(leg, 2)?;
+    }
+    check_eq(combined_position(&six), Position::Right)?;
+    six.read(4, 6)?;
+    check_eq(combined_position(&six), Position::Trailed)
 }

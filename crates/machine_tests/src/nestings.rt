@@ -37,7 +37,7 @@ fn right_four() -> RightFour {
     Pair::new(Wired::new(), Pair::new(Wired::new(), two()))
 }
 
-// The count, and that each known leg is read, driven and switched off by itself.
+// The count, and that each known leg takes its word and is switched off by itself.
 fn has_legs<M: Machine>(machine: &mut M, legs: u16) -> Result<(), Fail> {
     check_eq(machine.count(), legs.min(6))?;
     for leg in 0..legs.min(5) {
@@ -116,17 +116,16 @@ fn all_legs_of_seven() -> Result<(), Fail> {
     check_eq(seven.count(), 6)?;
     seven.drive(End::Right);
     seven.pass();
-    let (five, mut models) = seven.into_parts();
-    check_eq(models.driven(0), Drive::Right)?;
-    check_eq(models.driven(1), Drive::Right)?;
-    check_eq(models.show(0), Position::Right)?;
-    check_eq(models.show(1), Position::NoEndPosition)?;
-    models.drive(End::Left);
-    let mut seven = Pair::new(five, models);
     seven.switch_off(5);
     seven.switch_off(6);
-    let (_, mut models) = seven.into_parts();
-    check_eq(models.driven(0), Drive::Left)?;
-    models.halt();
+    let (five, models) = seven.into_parts();
+    check_eq(models.show(0), Position::Right)?;
+    check_eq(models.show(1), Position::NoEndPosition)?;
+    check_eq(models.driven(0), Drive::Right)?;
+    check_eq(models.driven(1), Drive::Right)?;
+    let mut seven = Pair::new(five, models);
+    seven.halt();
+    let (_, models) = seven.into_parts();
+    check_eq(models.driven(0), Drive::Off)?;
     check_eq(models.driven(1), Drive::Off)
 }
