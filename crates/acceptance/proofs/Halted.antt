@@ -9,7 +9,7 @@ use Rattle.machine.specs.Actions.{halted}
 use Rattle.machine.specs.Legs.{Leg, with-drive}
 use Rattle.machine.specs.LegNumbers.{leg-at, driven-of}
 use Rattle.machine.proofs.LegNumbers.{leg-at-map}
-use Rattle.acceptance.specs.Switching.{All-off}
+use Rattle.factory.specs.Switching.{All-off}
 
 one-off : (l : Option Leg) → driven-of (mapped (with-drive Off) l) ≡ Off
 one-off None = refl

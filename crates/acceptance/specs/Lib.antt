@@ -1,3 +1,1 @@
-pub mod Rigging
-pub mod Switching
 pub mod Throwing

@@ -11,7 +11,7 @@ use Rattle.machine.specs.Legs.{Leg, positions}
 use Rattle.machine.specs.LegNumbers.{known-part}
 use Rattle.std.specs.Options.{Cases}
 use Rattle.std.specs.declared.option.Option.{Option}
-use Rattle.acceptance.specs.Switching.{All-off}
+use Rattle.factory.specs.Switching.{All-off}
 
 abbrev pub Arrived : ℕ → End → ℕ → List Leg → Type 0
 Arrived limit end tick m = (1 ≤ tick) × (tick ≤ limit) × (combined (positions (known-part m)) ≡ position-at end)

@@ -1,9 +1,9 @@
 // The factory test of a point with five motors, with a line for all that happens.
 mod printing;
-mod rigging;
-mod switching;
 mod throwing;
 
+use factory::five_motors;
+use factory::put_over;
 use layers::CrossedMachine;
 use layers::PairMachine;
 use legs::End;
@@ -14,8 +14,6 @@ use printing::print_reversal;
 use printing::print_state;
 use printing::print_verdict;
 use printing::print_word;
-use rigging::five_motors;
-use rigging::put_over;
 use std::io;
 use throwing::move_for;
 use throwing::throw;

@@ -1,7 +1,7 @@
 // Lines for people to read.
-use crate::rigging::CROSSED_LEG;
-use crate::rigging::CROSSED_TRAVEL;
-use crate::switching::all_off;
+use factory::CROSSED_LEG;
+use factory::CROSSED_TRAVEL;
+use factory::all_off;
 use legs::End;
 use legs::ReadRefusal;
 use machine::KNOWN_LEGS;

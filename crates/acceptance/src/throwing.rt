@@ -7,7 +7,7 @@ use crate::printing::print_command;
 use crate::printing::print_state;
 use crate::printing::print_tick;
 use crate::printing::print_timeout;
-use crate::switching::switch_off_arrived;
+use factory::switch_off_arrived;
 use legs::End;
 use legs::PositionPartialEq;
 use machine::Machine;

@@ -2,8 +2,8 @@ use mathlib.Core.Bool.{false}
 use mathlib.Core.Path.{_≡_}
 use Prim.Native.Nat.{ℕ, _<_}
 use lib.ListN.{length, getD}
-use Rattle.acceptance.specs.Switching.{arrived-at, off-below}
-use Rattle.acceptance.proofs.switching.switch_off_arrived.Given as given
+use Rattle.factory.specs.Switching.{arrived-at, off-below}
+use Rattle.factory.proofs.switching.switch_off_arrived.Given as given
 
 -- the legs below this one are done, and what was answered of them is noted
 abbrev pub Inv-loop-leg : given.InvT-loop-leg

@@ -3,7 +3,7 @@ ghost use Prim.Native.Nat.{ℕ, _<_};
 ghost use lib.ListN.{getD};
 ghost use mathlib.Core.Bool.{false};
 ghost use mathlib.Core.Path.{_≡_};
-ghost use Rattle.acceptance.specs.Switching.{All-off, arrived-at, off-if-arrived, off-below};
+ghost use Rattle.factory.specs.Switching.{All-off, arrived-at, off-if-arrived, off-below};
 ghost use Rattle.std.specs.Orderings.{Decides};
 use legs::Drive;
 use legs::DrivePartialEq;

@@ -7,8 +7,8 @@ use native.Mathlib.Omega.{arith}
 use Prim.Native.Nat.{_<_}
 use lib.ListN.{length, length-set, getD, set}
 use lib.Seq.{getD-set-same, getD-set-other}
-use Rattle.acceptance.specs.Switching.{arrived-at, off-if-arrived, off-below}
-use Rattle.acceptance.proofs.switching.switch_off_arrived.Needs as need
+use Rattle.factory.specs.Switching.{arrived-at, off-if-arrived, off-below}
+use Rattle.factory.proofs.switching.switch_off_arrived.Needs as need
 
 pub loop-leg-again : need.loop-leg-again
 loop-leg-again g c =

@@ -1,6 +1,6 @@
 // The five motors of the test.
 ghost use mathlib.Core.Path.{_≡_};
-ghost use Rattle.acceptance.specs.Rigging.{five-motors};
+ghost use Rattle.factory.specs.Rigging.{five-motors};
 ghost use Rattle.machine.specs.Actions.{ReadingWord};
 ghost use Rattle.machine.specs.LegNumbers.{read-answer};
 ghost use Rattle.std.specs.Results.{Cases};

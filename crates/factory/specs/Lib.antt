@@ -1,0 +1,2 @@
+pub mod Rigging
+pub mod Switching
