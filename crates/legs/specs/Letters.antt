@@ -1,4 +1,4 @@
--- The letter of every position, drive and end, as its character code.
+-- The letter of every position, drive and end, as its character code: 76 is L, 82 is R, 78 is N, 84 is T, 45 is -.
 -- position-letter  what a leg shows
 -- drive-letter     how a leg is driven
 -- end-letter       where a point can go
