@@ -1,6 +1,5 @@
 // One throw: all legs driven to an end, each switched off as it arrives, until all are there or the time is over.
-ghost use Rattle.acceptance.specs.Throwing.{Arrived, Thrown};
-ghost use Rattle.std.specs.Options.{Cases};
+ghost use Rattle.factory.specs.Throwing.{Moved, Thrown};
 ghost use Rattle.std.specs.Vec.{made};
 use crate::printing::print_arrival;
 use crate::printing::print_command;
@@ -21,7 +20,7 @@ pub fn move_for<M: Machine>(
     end: End,
     ticks: u16,
 ) -> io::Result<Option<u16>>
-    ensures { λ r. ⌜ made r (λ o. Cases o (Unit {0}) (λ tick. Arrived ticks end tick (meaning (now (machine .exit))))) ⌝ }
+    ensures { λ r. ⌜ made r (λ o. Moved ticks end o (meaning (now (machine .exit)))) ⌝ }
 {
     machine.drive(end);
     print_command(rt, end)?;

@@ -1,2 +1,3 @@
 pub mod Rigging
 pub mod Switching
+pub mod Throwing

@@ -1,11 +1,5 @@
 // A throw by the interface alone.
-ghost use Prim.Native.Nat.{_≤_};
-ghost use mathlib.Core.Path.{_≡_};
-ghost use Rattle.legs.specs.Combined.{combined};
-ghost use Rattle.legs.specs.Ends.{position-at};
-ghost use Rattle.machine.specs.Legs.{positions};
-ghost use Rattle.machine.specs.LegNumbers.{known-part};
-ghost use Rattle.std.specs.Options.{Cases};
+ghost use Rattle.factory.specs.Throwing.{Moved};
 use legs::End;
 use legs::PositionPartialEq;
 use machine::Machine;
@@ -13,7 +7,7 @@ use machine::combined_position;
 
 // Drives all legs to an end, and answers on which tick they are all there, if they are after so many.
 pub fn ticks_to<M: Machine>(machine: &mut M, end: End, limit: u16) -> Option<u16>
-    ensures { λ r. ⌜ Cases r (Unit {0}) (λ tick. (1 ≤ tick) × (tick ≤ limit) × (combined (positions (known-part (meaning (now (machine .exit))))) ≡ position-at end)) ⌝ }
+    ensures { λ r. ⌜ Moved limit end r (meaning (now (machine .exit))) ⌝ }
 {
     machine.drive(end);
     for tick in 1..=limit {

@@ -1,4 +1,4 @@
-// The three makes of one leg. Each is a machine by its motor.
+// The three makes of one leg.
 mod coded;
 mod detected;
 mod model;
