@@ -1,4 +1,5 @@
 // The factory test of a point with five motors, with a line for all that happens.
+#![tactic(auto)]
 mod printing;
 mod throwing;
 

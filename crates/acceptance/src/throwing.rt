@@ -15,7 +15,7 @@ pub fn move_for<M: Machine>(
     end: End,
     ticks: u16,
 ) -> io::Result<Option<u16>>
-    ensures { IfOk result (λ o. Moved ticks end o (meaning machine.new)) }
+    ensures { IfOk result (λ o. Moved ticks end o (M.meaning machine.new)) }
 {
     machine.drive(end);
     print_command(rt, end)?;
@@ -38,7 +38,7 @@ pub fn throw<M: Machine>(
     end: End,
     limit: u16,
 ) -> io::Result<Option<u16>>
-    ensures { IfOk result (λ o. Thrown limit end o (meaning machine.new)) }
+    ensures { IfOk result (λ o. Thrown limit end o (M.meaning machine.new)) }
 {
     let Some(tick) = move_for(rt, machine, end, limit)? else {
         machine.halt();

@@ -28,8 +28,8 @@ pub fn five_motors() -> Rig
 
 // A new model stands at its left end, which is the right end of a crossed leg: a word puts that leg over.
 pub fn put_over<M: Machine>(machine: &mut M) -> Result<(), ReadRefusal>
-    ensures answer { result ≡ read_answer (meaning machine.old) 1 4 }
-    ensures done { MatchResult result (λ _. does machine.old (ReadingWord 1 4) machine.new) (λ _. machine.new ≡ machine.old) }
+    ensures answer { result ≡ read_answer (M.meaning machine.old) 1 4 }
+    ensures done { MatchResult result (λ _. M.does machine.old (ReadingWord 1 4) machine.new) (λ _. machine.new ≡ machine.old) }
 {
     machine.read(CROSSED_LEG, CROSSED_TRAVEL)
 }

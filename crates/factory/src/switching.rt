@@ -7,8 +7,8 @@ use machine::{KNOWN_LEGS, Machine};
 
 // Switches a leg off if it is where it is driven, and answers whether it was.
 fn switch_off_if_arrived<M: Machine>(machine: &mut M, leg: u16) -> bool
-    ensures answer { result ≡ arrived_at (meaning machine.old) leg }
-    ensures legs { meaning machine.new ≡ off_if_arrived leg (meaning machine.old) }
+    ensures answer { result ≡ arrived_at (M.meaning machine.old) leg }
+    ensures legs { M.meaning machine.new ≡ off_if_arrived leg (M.meaning machine.old) }
 {
     if machine.driven(leg).has_reached(machine.show(leg)) {
         machine.switch_off(leg);
@@ -19,8 +19,8 @@ fn switch_off_if_arrived<M: Machine>(machine: &mut M, leg: u16) -> bool
 
 // Switches off the legs that have arrived, and answers which.
 pub fn switch_off_arrived<M: Machine>(machine: &mut M) -> [bool; 5]
-    ensures answer { (k : ℕ) → k < 5 → slice_index_or result k false ≡ arrived_at (off_below k (meaning machine.old)) k }
-    ensures legs { meaning machine.new ≡ off_below 5 (meaning machine.old) }
+    ensures answer { (k : ℕ) → k < 5 → slice_index_or result k false ≡ arrived_at (off_below k (M.meaning machine.old)) k }
+    ensures legs { M.meaning machine.new ≡ off_below 5 (M.meaning machine.old) }
 {
     let mut arrived = [false; 5];
     for leg in 0..KNOWN_LEGS {
@@ -31,7 +31,7 @@ pub fn switch_off_arrived<M: Machine>(machine: &mut M) -> [bool; 5]
 
 // Whether legs 0 to 4 are off.
 pub fn all_off<M: Machine>(machine: &M) -> bool
-    ensures { Decides result (AllOff (meaning machine.now)) }
+    ensures { Decides result (AllOff (M.meaning machine.now)) }
 {
     for leg in 0..KNOWN_LEGS {
         if machine.driven(leg) != Drive::Off {

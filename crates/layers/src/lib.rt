@@ -1,4 +1,5 @@
 // Machines over other machines.
+#![tactic(auto)]
 mod crossed;
 mod pair;
 

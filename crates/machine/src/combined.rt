@@ -9,8 +9,8 @@ use legs::Position;
 
 // The position that legs 0 to 4 make together; for a machine of at most five legs that is all of them.
 pub fn combined_position<M: Machine>(machine: &M) -> Position
-    ensures known { result ≡ combined (positions (known_part (meaning machine.now))) }
-    ensures whole { length (meaning machine.now) ≤ known_legs → result ≡ combined (positions (meaning machine.now)) }
+    ensures known { result ≡ combined (positions (known_part (M.meaning machine.now))) }
+    ensures whole { length (M.meaning machine.now) ≤ known_legs → result ≡ combined (positions (M.meaning machine.now)) }
 {
     let mut together = machine.show(0);
     for leg in 1..machine.count().min(KNOWN_LEGS) {

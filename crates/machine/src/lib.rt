@@ -1,4 +1,5 @@
 // The interface of every machine, what holds of all of them, and what the makes of one leg share.
+#![tactic(auto)]
 mod combined;
 mod interface;
 mod laws;

@@ -1,4 +1,5 @@
 // Tests of the makes and the layers by the interface alone, as tables.
+#![tactic(auto)]
 mod throws;
 
 pub use throws::ticks_to;

@@ -6,7 +6,7 @@ use machine::{Machine, combined_position};
 
 // Drives all legs to an end, and answers on which tick they are all there, if they are after so many.
 pub fn ticks_to<M: Machine>(machine: &mut M, end: End, limit: u16) -> Option<u16>
-    ensures { Moved limit end result (meaning machine.new) }
+    ensures { Moved limit end result (M.meaning machine.new) }
 {
     machine.drive(end);
     for tick in 1..=limit {

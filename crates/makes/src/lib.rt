@@ -1,4 +1,5 @@
 // The three makes of one leg.
+#![tactic(auto)]
 mod coded;
 mod detected;
 mod model;

@@ -8,8 +8,8 @@ use rules::{Command, Commands, Reading};
 
 // What is read before a decision, and how the machine took it.
 pub fn read_first<M: Machine>(machine: &mut M, reading: Reading) -> Result<(), ReadRefusal>
-    ensures answer { result ≡ read_result reading (meaning machine.old) }
-    ensures done { Chain does machine.old (read_actions reading result) machine.new }
+    ensures answer { result ≡ read_result reading (M.meaning machine.old) }
+    ensures done { Chain M.does machine.old (read_actions reading result) machine.new }
 {
     match reading {
         Reading::Nothing => Ok(()),
@@ -22,7 +22,7 @@ pub fn read_first<M: Machine>(machine: &mut M, reading: Reading) -> Result<(), R
 }
 
 fn switch_off_if<M: Machine>(machine: &mut M, leg: u16, off: bool)
-    ensures { Chain does machine.old (off_action leg off) machine.new }
+    ensures { Chain M.does machine.old (off_action leg off) machine.new }
 {
     if off {
         machine.switch_off(leg);
@@ -30,7 +30,7 @@ fn switch_off_if<M: Machine>(machine: &mut M, leg: u16, off: bool)
 }
 
 fn command_all<M: Machine>(machine: &mut M, command: Command)
-    ensures { Chain does machine.old (command_actions command) machine.new }
+    ensures { Chain M.does machine.old (command_actions command) machine.new }
 {
     match command {
         Command::Leave => {}
@@ -41,7 +41,7 @@ fn command_all<M: Machine>(machine: &mut M, command: Command)
 
 // What was decided, from leg 0 on, and then for all legs.
 pub fn carry_out<M: Machine>(machine: &mut M, commands: Commands)
-    ensures { Chain does machine.old (actions_of commands) machine.new }
+    ensures { Chain M.does machine.old (actions_of commands) machine.new }
 {
     switch_off_if(machine, 0, commands.off.leg0);
     switch_off_if(machine, 1, commands.off.leg1);

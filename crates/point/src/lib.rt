@@ -1,4 +1,5 @@
 // A point over any machine.
+#![tactic(auto)]
 mod carrying;
 mod looking;
 mod point;

@@ -7,7 +7,7 @@ use records::{LegStatus, Snapshot};
 
 // A missing leg shows no end position, and is off.
 fn leg_status<M: Machine>(machine: &M, leg: u16) -> LegStatus
-    ensures { result ≡ leg_status (meaning machine.now) leg }
+    ensures { result ≡ leg_status (M.meaning machine.now) leg }
 {
     LegStatus {
         shows: machine.show(leg),
@@ -16,7 +16,7 @@ fn leg_status<M: Machine>(machine: &M, leg: u16) -> LegStatus
 }
 
 fn known_leg<M: Machine>(machine: &M, leg: u16) -> Option<LegStatus>
-    ensures { result ≡ known_leg (meaning machine.now) leg }
+    ensures { result ≡ known_leg (M.meaning machine.now) leg }
 {
     if leg < machine.count().min(KNOWN_LEGS) {
         Some(leg_status(machine, leg))
@@ -27,7 +27,7 @@ fn known_leg<M: Machine>(machine: &M, leg: u16) -> Option<LegStatus>
 
 // Legs 0 to 4 as they are now, and whether there are more.
 pub fn snapshot<M: Machine>(machine: &M) -> Snapshot
-    ensures { result ≡ look (meaning machine.now) }
+    ensures { result ≡ look (M.meaning machine.now) }
 {
     Snapshot {
         leg0: leg_status(machine, 0),

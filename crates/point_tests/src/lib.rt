@@ -1,4 +1,5 @@
 // Tests of the point by its calls alone, as tables.
+#![tactic(auto)]
 mod scripted;
 
 pub use scripted::Scripted;

@@ -1,4 +1,5 @@
 // Lists of calls over a point, with a record of each, and what is promised of them all.
+#![tactic(auto)]
 mod promises;
 mod running;
 

@@ -1,4 +1,5 @@
 // What a point remembers from call to call.
+#![tactic(auto)]
 mod service;
 mod state;
 
