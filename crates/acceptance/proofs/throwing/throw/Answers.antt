@@ -5,11 +5,11 @@ use Rattle.acceptance.proofs.Halted.{halted_off, halted_there}
 use Rattle.acceptance.proofs.throwing.throw.Goals as goal
 
 -- what was not there before the halt is not there after it
-pub returns-in-default : goal.returns-in-default
-returns-in-default g c =
+pub returns-in_default : goal.returns-in_default
+returns-in_default g c =
     let end = c.args.end in
     let limit = c.args.limit in
-    let before = g.M.Machine.meaning c.move-for.new.machine in
+    let before = g.M.Machine.meaning c.move_for.new.machine in
     let after = g.M.Machine.meaning c.halt.new.self in
-    let not_there = MatchOption-at_none (1 ≤ limit → There end before → ⊥) (λ tick. (1 ≤ tick) × (tick ≤ limit) × There end before) c.in-default.is c.in-ok-tick.ensures in
+    let not_there = MatchOption-at_none (1 ≤ limit → There end before → ⊥) (λ tick. (1 ≤ tick) × (tick ≤ limit) × There end before) c.in_default.is c.in_ok-tick.ensures in
     (λ time there. not_there time (halted_there before after end c.halt.ensures.legs there), halted_off before after c.halt.ensures.legs)

@@ -4,4 +4,4 @@ use Rattle.point_rig.proofs.calling.add.Given as goal
 
 abbrev pub invariant-loop-added : goal.invariant-loop-added
 invariant-loop-added l =
-    vec_items l.calls ≡ vec_items l.initial.calls ++ replicate l.-added (call_of l.stretch.kind l.stretch.a l.stretch.b)
+    vec_items l.calls ≡ vec_items l.initial.calls ++ replicate l._added (call_of l.stretch.kind l.stretch.a l.stretch.b)

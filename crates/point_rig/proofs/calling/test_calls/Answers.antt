@@ -6,4 +6,4 @@ use Rattle.point_rig.specs.Calling.{test_list, test_plan}
 pub loop-stretch-preserved : goal.loop-stretch-preserved
 loop-stretch-preserved c =
     let within : c.loop-stretch.stretch-index < length test_plan = omega arith in
-    one_more_stretch test_list (vec_items c.loop-stretch.calls) (vec_items c.add.new.calls) test_plan c.loop-stretch.stretch-index _ within c.loop-stretch.invariant c.in-ok-add.ensures
+    one_more_stretch test_list (vec_items c.loop-stretch.calls) (vec_items c.add.new.calls) test_plan c.loop-stretch.stretch-index _ within c.loop-stretch.invariant c.in_ok-add.ensures
