@@ -49,11 +49,11 @@ fn call_by_name<M: Machine>(point: &mut Point<M>, kind: CallKind, a: u16, b: u16
 #[test]
 fn fifteen_calls_by_their_names(rt: HostRuntime) {
     let mut point = Point::new(Pair::new(Wired::new(), Model::new(2)));
-    for (kind, a, b, expected) in FIFTEEN {
+    for (number, (kind, a, b, expected)) in FIFTEEN.iter().enumerate() {
         let answer = call_by_name(&mut point, *kind, *a, *b);
-        check_seen(&rt, &point, answer, expected);
+        check_seen(&rt, number, &point, answer, expected);
     }
     let answer = call_by_name(&mut point, LoseConnection, 0, 0);
-    check_seen(&rt, &point, answer, "RL -- - - -");
+    check_seen(&rt, FIFTEEN.len(), &point, answer, "RL -- - - -");
     assert!(rt; !point.state().is_up());
 }

@@ -50,30 +50,38 @@ impl fmt::Display for Seen {
     }
 }
 
-pub fn check_seen<M: Machine>(rt: &impl Abort, point: &Point<M>, answer: Answer, expected: &str) {
+// Compares what is seen after the call in this line of its table.
+pub fn check_seen<M: Machine>(
+    rt: &impl Abort,
+    line: usize,
+    point: &Point<M>,
+    answer: Answer,
+    expected: &str,
+) {
     let legs = point.legs();
     assert_eq!(rt;
         InlineText::<ROOM>::of(Seen { legs, answer }).as_str(),
-        expected
+        expected,
+        "line {line}"
     );
 }
 
 // A refused call changes nothing, whichever table it stands in.
 fn play<M: Machine>(
     rt: &impl Abort,
+    line: usize,
     point: &mut Point<M>,
     call: Call,
     expected: &str,
-) -> Result<(), Fail> {
+) {
     let state = point.state();
     let legs = point.legs();
     let answer = point.perform(call);
-    check_seen(rt, point, answer, expected);
+    check_seen(rt, line, point, answer, expected);
     if let (Verdict::Refused(_), _, _) = answer {
-        assert_eq!(rt; point.state(), state);
-        assert_eq!(rt; point.legs(), legs);
+        assert_eq!(rt; point.state(), state, "line {line}");
+        assert_eq!(rt; point.legs(), legs, "line {line}");
     }
-    Ok(())
 }
 
 pub fn plays<M: Machine>(
@@ -83,7 +91,7 @@ pub fn plays<M: Machine>(
 ) -> Result<(), Fail> {
     for (number, (kind, a, b, expected)) in lines.iter().enumerate() {
         let call = Call::new(*kind, *a, *b);
-        play(rt, point, call, expected).note(format_args!("line {number}, {call:?}"))?;
+        play(rt, number, point, call, expected);
     }
     Ok(())
 }
