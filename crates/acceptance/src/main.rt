@@ -1,5 +1,6 @@
 // The factory test of a point with five motors, with a line for all that happens.
 #![tactic(auto)]
+
 mod printing;
 mod throwing;
 

@@ -1,5 +1,6 @@
 // What the factory test rigs, and what it does with the legs after a tick.
 #![tactic(auto)]
+
 mod rigging;
 mod switching;
 

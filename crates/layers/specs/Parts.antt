@@ -1,7 +1,6 @@
 -- Legs of two lists in a row, by the part that has them; and that a pair keeps the laws.
-use Rattle.std.specs.Prelude.{◌≡◌, ℕ, ◌+◌, ◌-◌, ◌<◌, ◌≤◌, min, cond, ltb, List, [], ◌∷◌, ◌++◌, map, length, None, Option, refl}
+use Rattle.std.specs.Prelude.{◌≡◌, ℕ, ◌+◌, ◌-◌, ◌<◌, ◌≤◌, min, List, ◌++◌, map, length, None, Option, refl}
 use Rattle.std.proofs.Common.{⊎_elim, sym, ap, ap₂, ◌∙◌, arith, length-append}
-use Rattle.std.specs.List.{slice_get}
 use Rattle.std.proofs.lemmas.List.{map-append}
 use Rattle.std.proofs.lemmas.Bool.{cases_lt, lt-ltb, le-ltb}
 use Rattle.legs.specs.declared.drive.Drive.TheVariants.{Off}
@@ -15,7 +14,7 @@ use Rattle.legs.specs.declared.position.Position.TheVariants.{NoEndPosition}
 use Rattle.layers.specs.declared.pair.Pair.{Pair}
 use Rattle.layers.specs.declared.pair.Part.{Part}
 use Rattle.layers.specs.declared.pair.Part.TheVariants.{First, Second, Missing}
-use Rattle.layers.specs.Pair.{pair_legs, part_of, OnePart, BothParts, pair_does}
+use Rattle.layers.specs.Pair.{pair_legs, part_of, OnePart, pair_does}
 
 -- the leg of a part, and a change of it
 abbrev pub leg_in : Part → List Leg → List Leg → Option Leg

@@ -1,5 +1,6 @@
 // Machines over other machines.
 #![tactic(auto)]
+
 mod crossed;
 mod pair;
 

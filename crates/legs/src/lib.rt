@@ -1,5 +1,6 @@
 // The words for one leg: what it shows, how it is driven, where it can go, and why it refuses a word.
 #![tactic(auto)]
+
 mod drive;
 mod end;
 mod position;

@@ -1,6 +1,6 @@
 -- A make of one leg keeps the laws of a machine.
-use Rattle.std.specs.Prelude.{◌≡◌, ℕ, zero, suc, false, List, [], ◌∷◌, ◌==◌, nat_lt, refl}
-use Rattle.std.proofs.Common.{arith, ap, ◌∙◌}
+use Rattle.std.specs.Prelude.{◌≡◌, ℕ, zero, suc, false, [], ◌∷◌, ◌==◌, nat_lt, refl}
+use Rattle.std.proofs.Common.{arith, ap}
 use Rattle.std.proofs.lemmas.Bool.{ne_eqb}
 use Rattle.legs.specs.declared.drive.Drive.{Drive}
 use Rattle.legs.specs.declared.drive.Drive.TheVariants.{Off}

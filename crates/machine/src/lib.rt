@@ -1,5 +1,6 @@
 // The interface of every machine, what holds of all of them, and what the makes of one leg share.
 #![tactic(auto)]
+
 mod combined;
 mod interface;
 mod laws;

@@ -1,5 +1,6 @@
 // Tests of the makes and the layers by the interface alone, as tables.
 #![tactic(auto)]
+
 mod throws;
 
 pub use throws::ticks_to;

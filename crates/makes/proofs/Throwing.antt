@@ -1,18 +1,17 @@
 -- A model stays within its range, and arrives on time.
-use Rattle.std.proofs.Common.{◌≡◌, ℕ, zero, suc, ◌+◌, ◌-◌, ◌<◌, ◌≤◌, min, max, Bool, true, false, cond, eqb, ltb, leb, refl, ap, ◌∙◌, ⊎_elim, arith}
-use Rattle.std.proofs.lemmas.Bool.{cond_both, ltb-true, leb-true, eq-eqb, ne_eqb, eqb-true}
+use Rattle.std.proofs.Common.{◌≡◌, ℕ, zero, suc, ◌+◌, ◌-◌, ◌<◌, ◌≤◌, min, Bool, true, false, cond, eqb, ltb, leb, refl, arith}
+use Rattle.std.proofs.lemmas.Bool.{cond_both, ltb-true, leb-true, eq-eqb, ne_eqb}
 use Rattle.std.proofs.lemmas.Bool.Decides.{nat_tests}
 use Rattle.legs.specs.declared.drive.Drive.{Drive}
 use Rattle.legs.specs.declared.drive.Drive.TheVariants as drive
 use Rattle.legs.specs.declared.end.End.{End}
 use Rattle.legs.specs.declared.end.End.TheVariants.{Left, Right}
-use Rattle.legs.specs.declared.position.Position.{Position}
 use Rattle.legs.specs.declared.position.Position.TheVariants as position
 use Rattle.machine.specs.Actions.{Action, Driving, Halting, SwitchingOff, ReadingWord, Passing}
 use Rattle.legs.specs.Ends.{drive_towards, position_at}
 use Rattle.machine.specs.SingleLegs.{single_after}
 use Rattle.makes.specs.declared.model.Model.{Model}
-use Rattle.makes.specs.Model.{place_after, place_shows, model_leg, new_model, model_driving, model_reading, model_passing}
+use Rattle.makes.specs.Model.{place_after, place_shows, model_driving, model_reading, model_passing}
 use Rattle.makes.specs.Throws.{InRange, StaysInRange, passes, thrown, ticks_to, shown_then, Arrives}
 
 place_within : (d : Drive) (place travel : ℕ) → place ≤ travel → place_after d place travel ≤ travel

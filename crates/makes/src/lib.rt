@@ -1,5 +1,6 @@
 // The three makes of one leg.
 #![tactic(auto)]
+
 mod coded;
 mod detected;
 mod model;

@@ -1,5 +1,5 @@
 -- Chains put together.
-use Rattle.std.proofs.Common.{◌≡◌, ℕ, List, [], ◌∷◌, ◌++◌, drop, refl}
+use Rattle.std.proofs.Common.{List, [], ◌∷◌, ◌++◌, drop, refl}
 use Rattle.machine.specs.Actions.{Action}
 use Rattle.point.specs.Chains.{Chain, actions_of, command_actions, off_action, off_actions}
 use Rattle.rules.specs.declared.decision.Commands.{Commands}

@@ -1,7 +1,7 @@
 -- The legs of a machine by their numbers, and the snapshot made of them.
-use Rattle.std.proofs.Common.{◌≡◌, ℕ, ◌<◌, ◌≤◌, min, ltb, List, [], ◌∷◌, map, length, Some, None, Option, unwrap_or, sym, refl, ap, ◌∙◌, ⊎_elim, arith}
+use Rattle.std.proofs.Common.{◌≡◌, ℕ, ◌<◌, ◌≤◌, min, ltb, List, [], ◌∷◌, length, Some, None, Option, unwrap_or, sym, refl, ◌∙◌, ⊎_elim, arith}
 use lib.ListN.{length-map}
-use Rattle.std.proofs.lemmas.Option.{slice_get-get_or, slice_get_past}
+use Rattle.std.proofs.lemmas.Option.{slice_get_past}
 use Rattle.std.proofs.lemmas.Bool.{cases_lt, lt-ltb, le-ltb}
 use Rattle.std.specs.Option.{option_map}
 use Rattle.std.specs.List.{slice_get}
@@ -9,9 +9,8 @@ use Rattle.machine.specs.LegNumbersLemmas.{nth_map}
 use Rattle.machine.proofs.Together.{known_leg as leg_is_there}
 use Rattle.machine.specs.Legs.{Leg}
 use Rattle.machine.specs.LegNumbers.{count_of, driven_of, known_legs, leg_at, shown_of}
-use Rattle.point.specs.Looks.{known_leg, leg_status, look, status_of, statuses}
+use Rattle.point.specs.Looks.{known_leg, leg_status, status_of, statuses}
 use Rattle.records.specs.declared.snapshot.LegStatus.{LegStatus}
-use Rattle.records.specs.declared.snapshot.Snapshot.{Snapshot}
 use Rattle.records.specs.Snapshots.{absent, snapshot_of}
 
 one_leg : (m : List Leg) (k : ℕ) (l : Leg) → leg_at m k ≡ Some l → Some (leg_status m k) ≡ known_leg m k

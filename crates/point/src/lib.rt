@@ -1,5 +1,6 @@
 // A point over any machine.
 #![tactic(auto)]
+
 mod carrying;
 mod looking;
 mod point;

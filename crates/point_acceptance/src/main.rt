@@ -1,5 +1,6 @@
 // The factory test of a point with five motors, with a line for every call.
 #![tactic(auto)]
+
 mod planned;
 mod printing;
 mod words;

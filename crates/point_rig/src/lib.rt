@@ -1,5 +1,6 @@
 // The factory test: the motors it rigs, the calls it makes, and how its movements ended.
 #![tactic(auto)]
+
 mod calling;
 mod ending;
 mod rigging;

@@ -1,5 +1,6 @@
 // Tests of the point by its calls alone, as tables.
 #![tactic(auto)]
+
 mod scripted;
 
 pub use scripted::Scripted;

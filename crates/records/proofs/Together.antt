@@ -1,5 +1,5 @@
 -- The legs of a snapshot, joined one after the other.
-use Rattle.std.proofs.Common.{◌≡◌, List, [], ◌∷◌, ◌++◌, map, Some, None, fold, Option, sym, refl, ap, ◌∙◌, append_assoc, append-nil}
+use Rattle.std.proofs.Common.{◌≡◌, List, [], ◌∷◌, ◌++◌, map, Some, None, fold, Option, sym, ap, ◌∙◌, append_assoc, append-nil}
 use Rattle.legs.specs.declared.position.Position.{Position}
 use Rattle.legs.specs.Combined.{combined}
 use Rattle.legs.proofs.Joining.{combined_push, alone_shows}

@@ -1,5 +1,6 @@
 // What goes into a point and what comes out of it: calls, verdicts, messages, refusals, and the record of one call.
 #![tactic(auto)]
+
 mod call;
 mod entry;
 mod message;

@@ -1,5 +1,5 @@
 -- A decision whose verdict is a refusal is that refusal and nothing else.
-use Rattle.std.proofs.Common.{◌≡◌, ℕ, Bool, true, false, cond, eqb, Some, None, Ok, Err, Option, Result, sym, refl, ◌∙◌}
+use Rattle.std.proofs.Common.{◌≡◌, ℕ, Bool, true, false, eqb, Some, None, Ok, Err, Option, Result, sym, refl, ◌∙◌}
 use Rattle.std.proofs.lemmas.Bool.{cond_both, false≢true}
 use Rattle.legs.specs.Combined.{combined, same_position}
 use Rattle.legs.specs.Ends.{position_at}
@@ -7,7 +7,6 @@ use Rattle.legs.specs.declared.end.End.{End}
 use Rattle.legs.specs.declared.position.Position.{Position}
 use Rattle.legs.specs.declared.read_refusal.ReadRefusal.{ReadRefusal}
 use Rattle.records.specs.Calls.{same_kind}
-use Rattle.records.specs.Messages.{position_message}
 use Rattle.records.specs.Refusals.{read_refused}
 use Rattle.records.specs.Snapshots.{shown_in}
 use Rattle.records.specs.Verdicts.{is_refusal}
@@ -19,7 +18,7 @@ use Rattle.records.specs.declared.refusal.Refusal.{Refusal}
 use Rattle.records.specs.declared.refusal.Refusal.TheVariants.{AlreadyInService, NoSuchEnd, OutOfService, TooManyLegs, UnusableSettings, WrongConnection}
 use Rattle.records.specs.declared.snapshot.Snapshot.{Snapshot}
 use Rattle.records.specs.declared.verdict.Verdict.TheVariants.{AlreadyMoving, Opened, Reversed}
-use Rattle.rules.specs.Connecting.{checked, connect, connected, finished, step_from, telling, version}
+use Rattle.rules.specs.Connecting.{checked, connect, connected, finished, telling, version}
 use Rattle.rules.specs.Deciding.{decide, decide_by, decide_in, position_of, sensed}
 use Rattle.records.specs.Answers.{silent}
 use Rattle.rules.specs.Decisions.{IfRefused, answered, refused}
@@ -27,7 +26,7 @@ use Rattle.rules.specs.Judging.{course_of, course_verdict, judge}
 use Rattle.rules.specs.Moving.{already_there, end_asked, move_to, order, same_end, set_off, to_end}
 use Rattle.state.specs.Service.{service_asked}
 use Rattle.rules.specs.Starting.{start, started}
-use Rattle.state.specs.State.{is_up, news, same_connection, with_told}
+use Rattle.state.specs.State.{is_up, news, same_connection}
 use Rattle.rules.specs.declared.connecting.Step.{Step}
 use Rattle.rules.specs.declared.connecting.Step.TheVariants.{Check, Finish, Lost, Report}
 use Rattle.rules.specs.declared.decision.Command.TheVariants.{Leave}
@@ -35,7 +34,6 @@ use Rattle.rules.specs.declared.decision.Decision.{Decision}
 use Rattle.rules.specs.declared.judging.Course.{Course}
 use Rattle.rules.specs.declared.judging.Course.TheVariants as course
 use Rattle.state.specs.declared.service.Service.{Service}
-use Rattle.state.specs.declared.state.Connection.{Connection}
 use Rattle.state.specs.declared.state.Connection.TheVariants.{Checked, Down, Reporting, Up}
 use Rattle.state.specs.declared.state.Movement.{Movement}
 use Rattle.state.specs.declared.state.State.{State}

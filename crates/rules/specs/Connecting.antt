@@ -6,7 +6,7 @@
 -- checked      the answer to a check of the version
 -- finished     the end of the report: the position is told once more if it is news
 -- connect      a step, where the legs are at this position as it is reported
-use Rattle.std.specs.Prelude.{ℕ, Bool, cond, ◌==◌}
+use Rattle.std.specs.Prelude.{ℕ, cond, ◌==◌}
 use Rattle.legs.specs.declared.position.Position.{Position}
 use Rattle.records.specs.declared.message.Message.{Message}
 use Rattle.records.specs.declared.message.Message.TheVariants.{Nothing, VersionMatches, VersionDiffers, StartInitialisation, InitialisationCompleted}

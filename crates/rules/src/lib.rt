@@ -1,5 +1,6 @@
 // What a point decides on each call: from its state, what was read and what the legs show, with no machine in it.
 #![tactic(auto)]
+
 mod connecting;
 mod deciding;
 mod decision;

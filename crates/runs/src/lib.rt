@@ -1,5 +1,6 @@
 // Lists of calls over a point, with a record of each, and what is promised of them all.
 #![tactic(auto)]
+
 mod promises;
 mod running;
 

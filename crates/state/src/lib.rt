@@ -1,5 +1,6 @@
 // What a point remembers from call to call.
 #![tactic(auto)]
+
 mod service;
 mod state;
 
