@@ -47,7 +47,7 @@ pub trait Machine {
         ensures legs { meaning self.new ≡ off_at leg (meaning self.old) }
         ensures done { does self.old (SwitchingOff leg) self.new };
 
-    // Gives a word of its detector to a leg. By the law above, all that can change is what this leg shows;
+    // Gives a word of its detector to a leg. By the law below, all that can change is what this leg shows;
     // a refusal leaves the machine as it was.
     fn read(&mut self, leg: u16, word: u16) -> Result<(), ReadRefusal>
         ensures answer { result ≡ read_answer (meaning self.old) leg word }
