@@ -5,7 +5,7 @@ usage: tools/respell.py [--dry]      at the top of the repository, right after t
 
 Renamed is what stands in specs/ and in the lemma files of proofs/: definitions, fields, constructors, and the names that they
 bind; everywhere in crates/ where it is cited. Names of src/, of the library, and names that the check makes keep their spelling.
-It stops where two names would fall together.
+It stops where two of these would fall together, and says where one has the spelling of a name in src/ now.
 """
 import glob
 import re

@@ -5,7 +5,7 @@ use machine::Machine;
 use makes::{Model, Wired};
 use point::Point;
 use records::CallKind::*;
-use records::{Answer, CallKind};
+use records::{Answer, Call};
 use std::test::Fail;
 
 const FIFTEEN: &[Line] = &[
@@ -32,7 +32,8 @@ fn fifteen_calls(rt: HostRuntime) -> Result<(), Fail> {
     plays(&rt, &mut point, FIFTEEN)
 }
 
-fn call_by_name<M: Machine>(point: &mut Point<M>, kind: CallKind, a: u16, b: u16) -> Answer {
+fn call_by_name<M: Machine>(point: &mut Point<M>, call: Call) -> Answer {
+    let Call { kind, a, b } = call;
     match kind {
         StartService => point.start_service(a, b),
         CheckVersion => point.check_version(a, b),
@@ -50,10 +51,12 @@ fn call_by_name<M: Machine>(point: &mut Point<M>, kind: CallKind, a: u16, b: u16
 fn fifteen_calls_by_their_names(rt: HostRuntime) {
     let mut point = Point::new(Pair::new(Wired::new(), Model::new(2)));
     for (number, (kind, a, b, expected)) in FIFTEEN.iter().enumerate() {
-        let answer = call_by_name(&mut point, *kind, *a, *b);
-        check_seen(&rt, number, &point, answer, expected);
+        let call = Call::new(*kind, *a, *b);
+        let answer = call_by_name(&mut point, call);
+        check_seen(&rt, number, call, &point, answer, expected);
     }
-    let answer = call_by_name(&mut point, LoseConnection, 0, 0);
-    check_seen(&rt, FIFTEEN.len(), &point, answer, "RL -- - - -");
+    let call = Call::new(LoseConnection, 0, 0);
+    let answer = call_by_name(&mut point, call);
+    check_seen(&rt, FIFTEEN.len(), call, &point, answer, "RL -- - - -");
     assert!(rt; !point.state().is_up());
 }

@@ -50,10 +50,11 @@ impl fmt::Display for Seen {
     }
 }
 
-// Compares what is seen after the call in this line of its table.
+// Compares what is seen after a call, which is the one in this line of its table.
 pub fn check_seen<M: Machine>(
     rt: &impl Abort,
     line: usize,
+    call: Call,
     point: &Point<M>,
     answer: Answer,
     expected: &str,
@@ -62,7 +63,7 @@ pub fn check_seen<M: Machine>(
     assert_eq!(rt;
         InlineText::<ROOM>::of(Seen { legs, answer }).as_str(),
         expected,
-        "line {line}"
+        "line {line}, {call:?}"
     );
 }
 
@@ -77,10 +78,10 @@ fn play<M: Machine>(
     let state = point.state();
     let legs = point.legs();
     let answer = point.perform(call);
-    check_seen(rt, line, point, answer, expected);
+    check_seen(rt, line, call, point, answer, expected);
     if let (Verdict::Refused(_), _, _) = answer {
-        assert_eq!(rt; point.state(), state, "line {line}");
-        assert_eq!(rt; point.legs(), legs, "line {line}");
+        assert_eq!(rt; point.state(), state, "line {line}, {call:?}");
+        assert_eq!(rt; point.legs(), legs, "line {line}, {call:?}");
     }
 }
 
