@@ -4,13 +4,13 @@
 -- some_show      at least one of them is
 -- combined       an end if every leg shows it; trailed if some leg is; else no end position. Meant for at least one leg
 -- joined         the same of two positions
-use Rattle.std.specs.Prelude.{Bool, true, false, cond, ◌&&◌, ◌||◌, List, [], ◌∷◌, eqb}
+use Rattle.std.specs.Prelude.{Bool, true, false, cond, ◌&&◌, ◌||◌, List, [], ◌∷◌, ◌==◌}
 use Rattle.legs.specs.declared.position.Position.{Position}
 use Rattle.legs.specs.declared.position.Position.TheVariants.{Left, Right, NoEndPosition, Trailed}
 use Rattle.legs.specs.Letters.{position_letter}
 
 abbrev pub same_position : Position → Position → Bool
-same_position p q = eqb (position_letter p) (position_letter q)
+same_position p q = position_letter p == position_letter q
 
 abbrev pub all_show : Position → List Position → Bool
 all_show p [] = true

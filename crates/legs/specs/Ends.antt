@@ -2,7 +2,7 @@
 -- drive_towards  the drive that moves a leg to an end
 -- position_at    what a leg shows at an end
 -- reached        whether a leg is where it is driven: the two letters are the same
-use Rattle.std.specs.Prelude.{Bool, eqb}
+use Rattle.std.specs.Prelude.{Bool, ◌==◌}
 use Rattle.legs.specs.declared.position.Position.{Position}
 use Rattle.legs.specs.declared.position.Position.TheVariants as position
 use Rattle.legs.specs.declared.drive.Drive.{Drive}
@@ -20,4 +20,4 @@ position_at end.Left = position.Left
 position_at end.Right = position.Right
 
 abbrev pub reached : Drive → Position → Bool
-reached d p = eqb (drive_letter d) (position_letter p)
+reached d p = drive_letter d == position_letter p

@@ -1,11 +1,12 @@
 // Where a point can be ordered to go.
-ghost use Rattle.std.specs.Prelude.{◌≡◌};
+ghost use Rattle.std.specs.Prelude.{[], ◌∷◌, Some};
 ghost use Rattle.legs.specs.Crossing.{opposite_end};
 ghost use Rattle.legs.specs.Letters.{end_letter};
-ghost use Rattle.legs.specs.Ends.{drive_towards, position_at};
+ghost use Rattle.std.proofs.Common.{rules};
 
-use crate::drive::Drive;
-use crate::position::Position;
+use crate::lettered::Lettered;
+use crate::sided::Sided;
+use std::fmt;
 
 #[derive(Clone, Copy, PartialEq, Eq, Debug)]
 pub enum End {
@@ -13,44 +14,36 @@ pub enum End {
     Right,
 }
 
-impl End {
-    // The letter that stands for this end in every output.
-    pub fn letter(self) -> char
-        ensures { result ≡ end_letter self }
-    {
+impl Lettered for End {
+    ghost letter_of = { end_letter };
+
+    ghost told_apart = { Prim.search rules };
+
+    fn letter(self) -> char {
         match self {
             End::Left => 'L',
             End::Right => 'R',
         }
     }
+}
 
-    // The drive that moves a leg to this end.
-    pub fn drive(self) -> Drive
-        ensures { result ≡ drive_towards self }
-    {
-        match self {
-            End::Left => Drive::Left,
-            End::Right => Drive::Right,
-        }
-    }
+impl Sided for End {
+    ghost opposite_of = { opposite_end };
 
-    // What a leg shows at this end.
-    pub fn position(self) -> Position
-        ensures { result ≡ position_at self }
-    {
-        match self {
-            End::Left => Position::Left,
-            End::Right => Position::Right,
-        }
-    }
+    ghost undone = { Prim.search rules };
 
-    // The end to which a crossed machine drives what is below it.
-    pub fn opposite(self) -> End
-        ensures { result ≡ opposite_end self }
-    {
+    fn opposite(self) -> End {
         match self {
             End::Left => End::Right,
             End::Right => End::Left,
         }
+    }
+}
+
+impl fmt::Display for End {
+    ghost output = { λ x. Some (end_letter x ∷ []) };
+
+    fn fmt<W: fmt::Write>(&self, f: &mut fmt::Formatter<W>) -> fmt::Result {
+        f.write_char(self.letter())
     }
 }

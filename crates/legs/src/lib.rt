@@ -3,10 +3,14 @@
 
 mod drive;
 mod end;
+mod lettered;
 mod position;
 mod read_refusal;
+mod sided;
 
 pub use drive::Drive;
 pub use end::End;
+pub use lettered::Lettered;
 pub use position::Position;
 pub use read_refusal::ReadRefusal;
+pub use sided::Sided;

@@ -2,20 +2,17 @@
 ghost use Rattle.std.specs.Prelude.{◌≡◌};
 ghost use Rattle.legs.specs.Refusals.{read_refusal_number};
 
+// Each with the number by which it is known.
 #[derive(Clone, Copy, PartialEq, Eq, Debug)]
 pub enum ReadRefusal {
-    MissingLeg,
-    UnreadableWord,
+    MissingLeg = 7,
+    UnreadableWord = 8,
 }
 
 impl ReadRefusal {
-    // The number by which this refusal is known.
     pub fn number(self) -> u8
         ensures { result ≡ read_refusal_number self }
     {
-        match self {
-            ReadRefusal::MissingLeg => 7,
-            ReadRefusal::UnreadableWord => 8,
-        }
+        self as u8
     }
 }
