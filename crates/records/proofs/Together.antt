@@ -18,11 +18,5 @@ join_legs p ps (Some l ∷ os) =
     ∙ join_legs p (ps ++ (l.shows ∷ [])) os
     ∙ ap (λ q. fold join_leg q os) (combined_push p ps l.shows)
 
-together : (x : Snapshot) → combined (shown_in x) ≡ join_leg (join_leg (join_leg (join_leg x.leg0.shows x.leg1) x.leg2) x.leg3) x.leg4
-together x =
-    let rest = x.leg1 ∷ (x.leg2 ∷ (x.leg3 ∷ (x.leg4 ∷ []))) in
-    join_legs x.leg0.shows [] rest ∙ ap (λ p. fold join_leg p rest) (sym (alone_shows x.leg0.shows))
-
-pub step_by_step : (x : Snapshot) (two three four five : Position) → two ≡ join_leg x.leg0.shows x.leg1 → three ≡ join_leg two x.leg2 → four ≡ join_leg three x.leg3 → five ≡ join_leg four x.leg4 → five ≡ combined (shown_in x)
-step_by_step x two three four five a b c d =
-    d ∙ ap (λ p. join_leg p x.leg4) (c ∙ ap (λ p. join_leg p x.leg3) (b ∙ ap (λ p. join_leg p x.leg2) a)) ∙ sym (together x)
+pub together : (x : Snapshot) → fold join_leg x.first.shows x.others ≡ combined (shown_in x)
+together x = sym (join_legs x.first.shows [] x.others ∙ ap (λ p. fold join_leg p x.others) (sym (alone_shows x.first.shows)))

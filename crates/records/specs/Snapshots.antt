@@ -20,7 +20,7 @@ absent = record { shows = NoEndPosition; driven = Off }
 
 abbrev pub snapshot_of : List LegStatus → Snapshot
 snapshot_of ls =
-    record { leg0 = unwrap_or (slice_get ls 0) absent; leg1 = slice_get ls 1; leg2 = slice_get ls 2; leg3 = slice_get ls 3; leg4 = slice_get ls 4; more = nat_lt 5 (length ls) }
+    record { first = unwrap_or (slice_get ls 0) absent; others = slice_get ls 1 ∷ (slice_get ls 2 ∷ (slice_get ls 3 ∷ (slice_get ls 4 ∷ []))); more = nat_lt 5 (length ls) }
 
 abbrev pub present : List (Option LegStatus) → List LegStatus
 present [] = []
@@ -28,7 +28,7 @@ present (None ∷ os) = present os
 present (Some l ∷ os) = l ∷ present os
 
 abbrev pub legs_in : Snapshot → List LegStatus
-legs_in x = x.leg0 ∷ present (x.leg1 ∷ (x.leg2 ∷ (x.leg3 ∷ (x.leg4 ∷ []))))
+legs_in x = x.first ∷ present x.others
 
 abbrev pub shown_in : Snapshot → List Position
 shown_in x = map (λ l. l.shows) (legs_in x)

@@ -1,6 +1,10 @@
 // What a point can be asked for.
-ghost use Rattle.std.specs.Prelude.{◌≡◌};
+ghost use Rattle.std.specs.Prelude.{◌≡◌, [], ◌∷◌, Some};
 ghost use Rattle.records.specs.Calls.{call_letter, call_of};
+ghost use Rattle.std.proofs.Common.{rules};
+
+use legs::Lettered;
+use std::fmt;
 
 #[derive(Clone, Copy, PartialEq, Eq, Debug)]
 pub enum CallKind {
@@ -14,11 +18,12 @@ pub enum CallKind {
     Tick,
 }
 
-impl CallKind {
-    // The letter that stands for this call in every output.
-    pub fn letter(self) -> char
-        ensures { result ≡ call_letter self }
-    {
+impl Lettered for CallKind {
+    ghost letter_of = { call_letter };
+
+    ghost told_apart = { Prim.search rules };
+
+    fn letter(self) -> char {
         match self {
             CallKind::StartService => 'B',
             CallKind::CheckVersion => 'C',
@@ -29,6 +34,14 @@ impl CallKind {
             CallKind::Sense => 'S',
             CallKind::Tick => 'T',
         }
+    }
+}
+
+impl fmt::Display for CallKind {
+    ghost output = { λ x. Some (call_letter x ∷ []) };
+
+    fn fmt<W: fmt::Write>(&self, f: &mut fmt::Formatter<W>) -> fmt::Result {
+        f.write_char(self.letter())
     }
 }
 

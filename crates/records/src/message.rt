@@ -1,8 +1,9 @@
 // What a point tells the interlocking: a plain code, so that an answer can be kept and compared as it is.
-ghost use Rattle.std.specs.Prelude.{◌≡◌};
+ghost use Rattle.std.specs.Prelude.{◌≡◌, Some};
 ghost use Rattle.records.specs.Messages.{message_code, message_text, position_message};
 
 use legs::Position;
+use std::fmt;
 
 #[derive(Clone, Copy, PartialEq, Eq, Debug)]
 pub enum Message {
@@ -43,16 +44,26 @@ impl Message {
             Message::Timeout => "TO",
         }
     }
+}
 
-    // The message that tells a position.
-    pub fn of_position(position: Position) -> Message
-        ensures { result ≡ position_message position }
-    {
+// The message that tells a position.
+impl From<Position> for Message {
+    ghost from_gives = { λ p m. m ≡ position_message p };
+
+    fn from(position: Position) -> Message {
         match position {
             Position::Left => Message::PositionLeft,
             Position::Right => Message::PositionRight,
             Position::NoEndPosition => Message::PositionNoEnd,
             Position::Trailed => Message::PositionTrailed,
         }
+    }
+}
+
+impl fmt::Display for Message {
+    ghost output = { λ m. Some (message_text m) };
+
+    fn fmt<W: fmt::Write>(&self, f: &mut fmt::Formatter<W>) -> fmt::Result {
+        f.write_str(self.text())
     }
 }

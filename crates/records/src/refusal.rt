@@ -4,39 +4,32 @@ ghost use Rattle.records.specs.Refusals.{read_refused, refusal_number};
 
 use legs::ReadRefusal;
 
+// Each with the number by which it is known.
 #[derive(Clone, Copy, PartialEq, Eq, Debug)]
 pub enum Refusal {
-    OutOfService,
-    AlreadyInService,
-    TooManyLegs,
-    UnusableSettings,
-    WrongConnection,
-    NoSuchEnd,
-    MissingLeg,
-    UnreadableWord,
+    OutOfService = 1,
+    AlreadyInService = 2,
+    TooManyLegs = 3,
+    UnusableSettings = 4,
+    WrongConnection = 5,
+    NoSuchEnd = 6,
+    MissingLeg = 7,
+    UnreadableWord = 8,
 }
 
 impl Refusal {
-    // The number by which this refusal is known.
     pub fn number(self) -> u8
         ensures { result ≡ refusal_number self }
     {
-        match self {
-            Refusal::OutOfService => 1,
-            Refusal::AlreadyInService => 2,
-            Refusal::TooManyLegs => 3,
-            Refusal::UnusableSettings => 4,
-            Refusal::WrongConnection => 5,
-            Refusal::NoSuchEnd => 6,
-            Refusal::MissingLeg => 7,
-            Refusal::UnreadableWord => 8,
-        }
+        self as u8
     }
+}
 
-    // What the point answers where its machine did not take a word.
-    pub fn of_read(refusal: ReadRefusal) -> Refusal
-        ensures { result ≡ read_refused refusal }
-    {
+// What the point answers where its machine did not take a word.
+impl From<ReadRefusal> for Refusal {
+    ghost from_gives = { λ e r. r ≡ read_refused e };
+
+    fn from(refusal: ReadRefusal) -> Refusal {
         match refusal {
             ReadRefusal::MissingLeg => Refusal::MissingLeg,
             ReadRefusal::UnreadableWord => Refusal::UnreadableWord,

@@ -1,6 +1,7 @@
 // The legs of a point as they are at one moment.
-ghost use Rattle.std.specs.Prelude.{◌≡◌};
+ghost use Rattle.std.specs.Prelude.{◌≡◌, ◌∷◌, Some};
 ghost use Rattle.legs.specs.Combined.{combined};
+ghost use Rattle.legs.specs.Ends.{reached};
 ghost use Rattle.records.specs.Snapshots.{join_leg, shown_in};
 
 use legs::{Drive, Position};
@@ -11,26 +12,39 @@ pub struct LegStatus {
     pub driven: Drive,
 }
 
-// Legs 0 to 4, as far as they are there (leg 0 always is), and whether there are more.
+impl LegStatus {
+    // Whether the leg is where it is driven.
+    pub fn has_arrived(self) -> bool
+        ensures { result ≡ reached self.driven self.shows }
+    {
+        self.driven.has_reached(self.shows)
+    }
+}
+
 #[derive(Clone, Copy, PartialEq, Eq, Debug)]
 pub struct Snapshot {
-    pub leg0: LegStatus,
-    pub leg1: Option<LegStatus>,
-    pub leg2: Option<LegStatus>,
-    pub leg3: Option<LegStatus>,
-    pub leg4: Option<LegStatus>,
+    // Leg 0 is always there.
+    pub first: LegStatus,
+    // Legs 1 to 4, as far as they are there.
+    pub others: [Option<LegStatus>; 4],
+    // Whether there are more than five.
     pub more: bool,
 }
 
 impl Snapshot {
+    // Legs 0 to 4, as far as they are there.
+    pub fn legs(self) -> [Option<LegStatus>; 5]
+        ensures { result ≡ Some self.first ∷ self.others }
+    {
+        let [leg1, leg2, leg3, leg4] = self.others;
+        [Some(self.first), leg1, leg2, leg3, leg4]
+    }
+
     // What these legs show together.
     pub fn combined_position(self) -> Position
         ensures { result ≡ combined (shown_in self) }
     {
-        let two = join_leg(self.leg0.shows, self.leg1);
-        let three = join_leg(two, self.leg2);
-        let four = join_leg(three, self.leg3);
-        join_leg(four, self.leg4)
+        self.others.into_iter().fold(self.first.shows, join_leg)
     }
 }
 
@@ -38,8 +52,5 @@ impl Snapshot {
 fn join_leg(together: Position, leg: Option<LegStatus>) -> Position
     ensures { result ≡ join_leg together leg }
 {
-    match leg {
-        Some(leg) => together.join(leg.shows),
-        None => together,
-    }
+    leg.map_or(together, |leg| together.join(leg.shows))
 }

@@ -1,8 +1,11 @@
 // What came of a call.
-ghost use Rattle.std.specs.Prelude.{◌≡◌};
+ghost use Rattle.std.specs.Prelude.{◌≡◌, [], ◌∷◌, Some};
 ghost use Rattle.records.specs.Verdicts.{verdict_letter};
+ghost use Rattle.std.proofs.Common.{rules};
 
 use crate::refusal::Refusal;
+use legs::Lettered;
+use std::fmt;
 
 #[derive(Clone, Copy, PartialEq, Eq, Debug)]
 pub enum Verdict {
@@ -16,11 +19,13 @@ pub enum Verdict {
     Refused(Refusal),
 }
 
-impl Verdict {
-    // The letter that stands for this verdict in every output, or the digit of a refusal.
-    pub fn letter(self) -> char
-        ensures { result ≡ verdict_letter self }
-    {
+// A refusal has its digit.
+impl Lettered for Verdict {
+    ghost letter_of = { verdict_letter };
+
+    ghost told_apart = { Prim.search rules };
+
+    fn letter(self) -> char {
         match self {
             Verdict::Plain => '-',
             Verdict::AlreadyThere => 'A',
@@ -31,5 +36,13 @@ impl Verdict {
             Verdict::TimedOut => 'X',
             Verdict::Refused(refusal) => (b'0' + refusal.number()) as char,
         }
+    }
+}
+
+impl fmt::Display for Verdict {
+    ghost output = { λ x. Some (verdict_letter x ∷ []) };
+
+    fn fmt<W: fmt::Write>(&self, f: &mut fmt::Formatter<W>) -> fmt::Result {
+        f.write_char(self.letter())
     }
 }
