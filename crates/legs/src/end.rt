@@ -1,6 +1,7 @@
 // Where a point can be ordered to go.
-ghost use Rattle.std.specs.Prelude.{[], ◌∷◌, Some};
+ghost use Rattle.std.specs.Prelude.{◌≡◌, [], ◌∷◌, Some, ok_or};
 ghost use Rattle.legs.specs.Crossing.{opposite_end};
+ghost use Rattle.legs.specs.Ends.{end_asked, no_such_end};
 ghost use Rattle.legs.specs.Letters.{end_letter};
 ghost use Rattle.std.proofs.Common.{rules};
 
@@ -12,6 +13,25 @@ use std::fmt;
 pub enum End {
     Left,
     Right,
+}
+
+// A number that names no end.
+#[derive(Clone, Copy, PartialEq, Eq, Debug)]
+pub struct NoSuchEnd;
+
+// The end that the argument of an order names.
+impl TryFrom<u16> for End {
+    type Error = NoSuchEnd;
+
+    ghost try_from_gives = { λ number r. r ≡ ok_or (end_asked number) no_such_end };
+
+    fn try_from(number: u16) -> Result<End, NoSuchEnd> {
+        match number {
+            1 => Ok(End::Left),
+            2 => Ok(End::Right),
+            _ => Err(NoSuchEnd),
+        }
+    }
 }
 
 impl Lettered for End {

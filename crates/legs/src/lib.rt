@@ -9,7 +9,7 @@ mod read_refusal;
 mod sided;
 
 pub use drive::Drive;
-pub use end::End;
+pub use end::{End, NoSuchEnd};
 pub use lettered::Lettered;
 pub use position::Position;
 pub use read_refusal::ReadRefusal;

@@ -1,5 +1,5 @@
 -- The legs of a machine by their numbers, and the snapshot made of them.
-use Rattle.std.proofs.Common.{◌≡◌, ℕ, ◌<◌, ◌≤◌, min, ltb, List, [], ◌∷◌, length, Some, None, Option, unwrap_or, sym, refl, ◌∙◌, ⊎_elim, arith}
+use Rattle.std.proofs.Common.{◌≡◌, ℕ, ◌<◌, ◌≤◌, min, ltb, List, [], ◌∷◌, map, length, Some, None, Option, unwrap_or, sym, refl, ◌∙◌, ⊎_elim, arith}
 use lib.ListN.{length-map}
 use Rattle.std.proofs.lemmas.Option.{slice_get_past}
 use Rattle.std.proofs.lemmas.Bool.{cases_lt, lt-ltb, le-ltb}
@@ -44,6 +44,6 @@ more_legs m =
     (λ few. le-ltb known_legs (count_of m) (omega arith) ∙ sym (le-ltb known_legs (length m) few))
     (cases_lt known_legs (length m))
 
-pub looked : (m : List Leg) → snapshot_of (statuses m) ≡ record { leg0 = leg_status m 0; leg1 = known_leg m 1; leg2 = known_leg m 2; leg3 = known_leg m 3; leg4 = known_leg m 4; more = ltb known_legs (count_of m) }
+pub looked : (m : List Leg) → snapshot_of (statuses m) ≡ record { first = leg_status m 0; others = map (known_leg m) (1 ∷ (2 ∷ (3 ∷ (4 ∷ [])))); more = ltb known_legs (count_of m) }
 looked m =
     rw (nth_map status_of m 0, nth_map status_of m 1, nth_map status_of m 2, nth_map status_of m 3, nth_map status_of m 4, length-map m status_of, first_status (slice_get m 0), more_legs m) refl

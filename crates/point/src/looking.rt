@@ -18,11 +18,7 @@ fn leg_status<M: Machine>(machine: &M, leg: u16) -> LegStatus
 fn known_leg<M: Machine>(machine: &M, leg: u16) -> Option<LegStatus>
     ensures { result ≡ known_leg (M.meaning machine.now) leg }
 {
-    if leg < machine.count().min(KNOWN_LEGS) {
-        Some(leg_status(machine, leg))
-    } else {
-        None
-    }
+    (leg < machine.count().min(KNOWN_LEGS)).then(|| leg_status(machine, leg))
 }
 
 // Legs 0 to 4 as they are now, and whether there are more.
@@ -30,11 +26,8 @@ pub fn snapshot<M: Machine>(machine: &M) -> Snapshot
     ensures { result ≡ look (M.meaning machine.now) }
 {
     Snapshot {
-        leg0: leg_status(machine, 0),
-        leg1: known_leg(machine, 1),
-        leg2: known_leg(machine, 2),
-        leg3: known_leg(machine, 3),
-        leg4: known_leg(machine, 4),
+        first: leg_status(machine, 0),
+        others: [1, 2, 3, 4].map(|leg| known_leg(machine, leg)),
         more: machine.count() > KNOWN_LEGS,
     }
 }

@@ -9,7 +9,7 @@ mod snapshot;
 mod verdict;
 
 pub use call::{Call, CallKind};
-pub use entry::{Answer, Entry};
+pub use entry::{Answer, Entry, silent};
 pub use message::Message;
 pub use refusal::Refusal;
 pub use snapshot::{LegStatus, Snapshot};

@@ -1,8 +1,9 @@
 // Why a point refuses a call.
 ghost use Rattle.std.specs.Prelude.{◌≡◌};
 ghost use Rattle.records.specs.Refusals.{read_refused, refusal_number};
+ghost use Rattle.records.specs.declared.refusal.Refusal.TheVariants as refusal;
 
-use legs::ReadRefusal;
+use legs::{NoSuchEnd, ReadRefusal};
 
 // Each with the number by which it is known.
 #[derive(Clone, Copy, PartialEq, Eq, Debug)]
@@ -34,5 +35,14 @@ impl From<ReadRefusal> for Refusal {
             ReadRefusal::MissingLeg => Refusal::MissingLeg,
             ReadRefusal::UnreadableWord => Refusal::UnreadableWord,
         }
+    }
+}
+
+// And where an order names no end.
+impl From<NoSuchEnd> for Refusal {
+    ghost from_gives = { λ _ r. r ≡ refusal.NoSuchEnd };
+
+    fn from(_none: NoSuchEnd) -> Refusal {
+        Refusal::NoSuchEnd
     }
 }

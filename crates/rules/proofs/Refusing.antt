@@ -2,7 +2,7 @@
 use Rattle.std.proofs.Common.{◌≡◌, ℕ, Bool, true, false, eqb, Some, None, Ok, Err, Option, Result, sym, refl, ◌∙◌}
 use Rattle.std.proofs.lemmas.Bool.{cond_both, false≢true}
 use Rattle.legs.specs.Combined.{combined, same_position}
-use Rattle.legs.specs.Ends.{position_at}
+use Rattle.legs.specs.Ends.{end_asked, position_at}
 use Rattle.legs.specs.declared.end.End.{End}
 use Rattle.legs.specs.declared.position.Position.{Position}
 use Rattle.legs.specs.declared.read_refusal.ReadRefusal.{ReadRefusal}
@@ -23,13 +23,12 @@ use Rattle.rules.specs.Deciding.{decide, decide_by, decide_in, position_of, sens
 use Rattle.records.specs.Answers.{silent}
 use Rattle.rules.specs.Decisions.{IfRefused, answered, refused}
 use Rattle.rules.specs.Judging.{course_of, course_verdict, judge}
-use Rattle.rules.specs.Moving.{already_there, end_asked, move_to, order, same_end, set_off, to_end}
+use Rattle.rules.specs.Moving.{already_there, move_to, order, same_end, set_off, to_end}
 use Rattle.state.specs.Service.{service_asked}
 use Rattle.rules.specs.Starting.{start, started}
 use Rattle.state.specs.State.{is_up, news, same_connection}
 use Rattle.rules.specs.declared.connecting.Step.{Step}
 use Rattle.rules.specs.declared.connecting.Step.TheVariants.{Check, Finish, Lost, Report}
-use Rattle.rules.specs.declared.decision.Command.TheVariants.{Leave}
 use Rattle.rules.specs.declared.decision.Decision.{Decision}
 use Rattle.rules.specs.declared.judging.Course.{Course}
 use Rattle.rules.specs.declared.judging.Course.TheVariants as course
@@ -80,7 +79,7 @@ module _ (s : State) where
   move_to_refused None e p =
       cond_both (same_position p (position_at e)) (already_there s p) (set_off s Opened e) (IfRefused s) (λ _. accepted (already_there s p) refl) (λ _. accepted (set_off s Opened e) refl)
   move_to_refused (Some m) e p =
-      let again = answered s (silent AlreadyMoving) Leave in
+      let again = answered s (silent AlreadyMoving) None in
       cond_both (same_end m.end e) again (set_off s Reversed e) (IfRefused s) (λ _. accepted again refl) (λ _. accepted (set_off s Reversed e) refl)
 
   to_end_refused : (e : Option End) (p : Position) → IfRefused s (to_end s e p)

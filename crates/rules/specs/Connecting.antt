@@ -6,7 +6,7 @@
 -- checked      the answer to a check of the version
 -- finished     the end of the report: the position is told once more if it is news
 -- connect      a step, where the legs are at this position as it is reported
-use Rattle.std.specs.Prelude.{ℕ, cond, ◌==◌}
+use Rattle.std.specs.Prelude.{ℕ, cond, None, ◌==◌}
 use Rattle.legs.specs.declared.position.Position.{Position}
 use Rattle.records.specs.declared.message.Message.{Message}
 use Rattle.records.specs.declared.message.Message.TheVariants.{Nothing, VersionMatches, VersionDiffers, StartInitialisation, InitialisationCompleted}
@@ -15,7 +15,6 @@ use Rattle.records.specs.declared.verdict.Verdict.TheVariants.{Plain}
 use Rattle.records.specs.Messages.{position_message}
 use Rattle.rules.specs.declared.connecting.Step.{Step}
 use Rattle.rules.specs.declared.connecting.Step.TheVariants.{Check, Report, Finish, Lost}
-use Rattle.rules.specs.declared.decision.Command.TheVariants.{Leave}
 use Rattle.rules.specs.declared.decision.Decision.{Decision}
 use Rattle.state.specs.declared.state.Connection.{Connection}
 use Rattle.state.specs.declared.state.Connection.TheVariants.{Down, Checked, Reporting, Up}
@@ -27,10 +26,10 @@ abbrev pub version : ℕ
 version = 3
 
 abbrev pub connected : State → Connection → Message → Decision
-connected s c m = answered (with_connection c s) (Plain, m, Nothing) Leave
+connected s c m = answered (with_connection c s) (Plain, m, Nothing) None
 
 abbrev pub telling : State → Connection → Message → Position → Decision
-telling s c m p = answered (with_connection c (with_told p s)) (Plain, m, position_message p) Leave
+telling s c m p = answered (with_connection c (with_told p s)) (Plain, m, position_message p) None
 
 abbrev pub step_from : Connection → State → Decision → Decision
 step_from c s d = cond (same_connection s.connection c) d (refused WrongConnection s)

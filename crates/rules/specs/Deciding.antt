@@ -22,7 +22,7 @@ use Rattle.records.specs.Refusals.{read_refused}
 use Rattle.records.specs.Snapshots.{shown_in}
 use Rattle.rules.specs.declared.connecting.Step.TheVariants.{Check, Report, Finish, Lost}
 use Rattle.rules.specs.declared.deciding.Reading.{Reading}
-use Rattle.rules.specs.declared.deciding.Reading.TheVariants.{Nothing, Pass, Word}
+use Rattle.rules.specs.declared.deciding.Reading.TheVariants.{Pass, Word}
 use Rattle.rules.specs.declared.decision.Decision.{Decision}
 use Rattle.state.specs.declared.service.Service.{Service}
 use Rattle.state.specs.declared.state.State.{State}
@@ -33,14 +33,14 @@ use Rattle.rules.specs.Moving.{order}
 use Rattle.state.specs.Service.{reported}
 use Rattle.rules.specs.Starting.{start}
 
-abbrev pub reading_in : Call → Reading
-reading_in o = cond (same_kind o.kind Sense) (Word o.a o.b) (cond (same_kind o.kind Tick) Pass Nothing)
+abbrev pub reading_in : Call → Option Reading
+reading_in o = cond (same_kind o.kind Sense) (Some (Word o.a o.b)) (cond (same_kind o.kind Tick) (Some Pass) None)
 
-abbrev pub reading_by : Option Service → Call → Reading
-reading_by None o = Nothing
+abbrev pub reading_by : Option Service → Call → Option Reading
+reading_by None o = None
 reading_by (Some v) o = reading_in o
 
-abbrev pub reading_for : State → Call → Reading
+abbrev pub reading_for : State → Call → Option Reading
 reading_for s o = reading_by s.service o
 
 abbrev pub position_of : Service → Snapshot → Position

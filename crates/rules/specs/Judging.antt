@@ -21,7 +21,7 @@ use Rattle.records.specs.Messages.{message_code, position_message}
 use Rattle.records.specs.Snapshots.{shown_in}
 use Rattle.records.specs.Verdicts.{same_verdict}
 use Rattle.rules.specs.declared.decision.Command.{Command}
-use Rattle.rules.specs.declared.decision.Command.TheVariants.{Leave, HaltAll}
+use Rattle.rules.specs.declared.decision.Command.TheVariants.{HaltAll}
 use Rattle.rules.specs.declared.decision.Decision.{Decision}
 use Rattle.rules.specs.declared.judging.Course.{Course}
 use Rattle.rules.specs.declared.judging.Course.TheVariants.{Closed, Open, Arrived, TimedOut}
@@ -54,11 +54,11 @@ course_movement (Open m) = Some m
 course_movement Arrived = None
 course_movement TimedOut = None
 
-abbrev pub course_command : Course → Command
-course_command Closed = Leave
-course_command (Open m) = Leave
-course_command Arrived = Leave
-course_command TimedOut = HaltAll
+abbrev pub course_command : Course → Option Command
+course_command Closed = None
+course_command (Open m) = None
+course_command Arrived = None
+course_command TimedOut = Some HaltAll
 
 abbrev pub ends_in : Verdict → Course → Bool
 ends_in v c = same_verdict (course_verdict c) v

@@ -1,6 +1,4 @@
 -- An order to move. It is refused unless the connection is up, then unless it names an end.
--- end_number     the number of an end as the argument of an order
--- end_asked      the end that an argument names, if it names one
 -- same_end       two ends are one if their numbers are
 -- set_off        a movement to this end begins: its age is 0, and all legs are driven
 -- already_there  nothing moves, and the position is told
@@ -9,16 +7,15 @@
 -- order          the whole call, by its argument
 use Rattle.std.specs.Prelude.{ℕ, Bool, cond, Some, None, Option, ◌==◌}
 use Rattle.legs.specs.declared.end.End.{End}
-use Rattle.legs.specs.declared.end.End.TheVariants.{Left, Right}
 use Rattle.legs.specs.declared.position.Position.{Position}
 use Rattle.legs.specs.Combined.{same_position}
-use Rattle.legs.specs.Ends.{position_at}
+use Rattle.legs.specs.Ends.{end_asked, end_number, position_at}
 use Rattle.records.specs.declared.message.Message.TheVariants.{Nothing}
 use Rattle.records.specs.declared.refusal.Refusal.TheVariants.{WrongConnection, NoSuchEnd}
 use Rattle.records.specs.declared.verdict.Verdict.{Verdict}
 use Rattle.records.specs.declared.verdict.Verdict.TheVariants.{AlreadyThere, Opened, AlreadyMoving, Reversed}
 use Rattle.records.specs.Messages.{position_message}
-use Rattle.rules.specs.declared.decision.Command.TheVariants.{Leave, DriveTo}
+use Rattle.rules.specs.declared.decision.Command.TheVariants.{DriveTo}
 use Rattle.rules.specs.declared.decision.Decision.{Decision}
 use Rattle.state.specs.declared.state.Movement.{Movement}
 use Rattle.state.specs.declared.state.State.{State}
@@ -26,25 +23,18 @@ use Rattle.records.specs.Answers.{silent}
 use Rattle.rules.specs.Decisions.{answered, refused}
 use Rattle.state.specs.State.{is_up, with_movement, with_told}
 
-abbrev pub end_number : End → ℕ
-end_number Left = 1
-end_number Right = 2
-
-abbrev pub end_asked : ℕ → Option End
-end_asked a = cond (a == end_number Left) (Some Left) (cond (a == end_number Right) (Some Right) None)
-
 abbrev pub same_end : End → End → Bool
 same_end e f = end_number e == end_number f
 
 abbrev pub set_off : State → Verdict → End → Decision
-set_off s v e = answered (with_movement (Some (record { end = e; elapsed = 0 })) s) (silent v) (DriveTo e)
+set_off s v e = answered (with_movement (Some (record { end = e; elapsed = 0 })) s) (silent v) (Some (DriveTo e))
 
 abbrev pub already_there : State → Position → Decision
-already_there s p = answered (with_told p s) (AlreadyThere, position_message p, Nothing) Leave
+already_there s p = answered (with_told p s) (AlreadyThere, position_message p, Nothing) None
 
 abbrev pub move_to : State → Option Movement → End → Position → Decision
 move_to s None e p = cond (same_position p (position_at e)) (already_there s p) (set_off s Opened e)
-move_to s (Some m) e p = cond (same_end m.end e) (answered s (silent AlreadyMoving) Leave) (set_off s Reversed e)
+move_to s (Some m) e p = cond (same_end m.end e) (answered s (silent AlreadyMoving) None) (set_off s Reversed e)
 
 abbrev pub to_end : State → Option End → Position → Decision
 to_end s None p = refused NoSuchEnd s

@@ -15,7 +15,7 @@ use Rattle.state.specs.State.{with_service}
 
 abbrev pub started : Option Service → State → Decision
 started None s = refused UnusableSettings s
-started (Some v) s = answered (with_service v s) (silent Plain) HaltAll
+started (Some v) s = answered (with_service v s) (silent Plain) (Some HaltAll)
 
 abbrev pub start : State → ℕ → ℕ → Bool → Decision
 start s a b more = cond more (refused TooManyLegs s) (started (service_asked a b) s)

@@ -1,8 +1,9 @@
 // The connection to the interlocking, step by step.
 ghost use Rattle.std.specs.Prelude.{◌≡◌};
 ghost use Rattle.rules.specs.Connecting.{connect, connected, telling};
+ghost use Rattle.rules.specs.Decisions.{decided};
 
-use crate::decision::{Command, Decision};
+use crate::decision::Decision;
 use legs::Position;
 use records::{Message, Refusal, Verdict};
 use state::{Connection, State};
@@ -21,10 +22,10 @@ pub enum Step {
 }
 
 // A step in a state of the connection, where the legs are at this position as it is reported.
-pub fn connect(state: State, step: Step, position: Position) -> Decision
-    ensures { result ≡ connect state step position }
+pub fn connect(state: State, step: Step, position: Position) -> Result<Decision, Refusal>
+    ensures { decided state result ≡ connect state step position }
 {
-    match (state.connection, step) {
+    let decision = match (state.connection, step) {
         (Connection::Down, Step::Check(VERSION)) => {
             connected(state, Connection::Checked, Message::VersionMatches)
         }
@@ -52,8 +53,9 @@ pub fn connect(state: State, step: Step, position: Position) -> Decision
             connected(state, Connection::Up, Message::InitialisationCompleted)
         }
         (_, Step::Lost) => connected(state, Connection::Down, Message::Nothing),
-        _ => Decision::refused(Refusal::WrongConnection, state),
-    }
+        _ => return Err(Refusal::WrongConnection),
+    };
+    Ok(decision)
 }
 
 // The connection is now like this.
@@ -65,7 +67,7 @@ fn connected(state: State, connection: Connection, message: Message) -> Decision
         ..state
     };
     let answer = (Verdict::Plain, message, Message::Nothing);
-    Decision::answered(state, answer, Command::Leave)
+    Decision::answered(state, answer, None)
 }
 
 // The same, and the position is told.
@@ -78,6 +80,6 @@ fn telling(state: State, connection: Connection, message: Message, position: Pos
         told,
         ..state
     };
-    let answer = (Verdict::Plain, message, Message::of_position(position));
-    Decision::answered(state, answer, Command::Leave)
+    let answer = (Verdict::Plain, message, Message::from(position));
+    Decision::answered(state, answer, None)
 }

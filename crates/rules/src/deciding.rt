@@ -1,6 +1,6 @@
 // What a point reads first on a call, and what it decides then.
 ghost use Rattle.std.specs.Prelude.{◌≡◌};
-ghost use Rattle.rules.specs.Decisions.{IfRefused};
+ghost use Rattle.rules.specs.Decisions.{IfRefused, decided};
 ghost use Rattle.rules.specs.Deciding.{decide, decide_in, decide_out, reading_for, sensed};
 
 use crate::connecting::{Step, connect};
@@ -15,20 +15,20 @@ use state::{Service, State};
 // What a call has the machine read before it is decided.
 #[derive(Clone, Copy)]
 pub enum Reading {
-    Nothing,
     Pass,
     // a word, for the leg with this number
     Word(u16, u16),
 }
 
-// Out of service the machine is left alone.
-pub fn reads_first(state: State, call: Call) -> Reading
+// Most calls have nothing read. Out of service the machine is left alone.
+pub fn reads_first(state: State, call: Call) -> Option<Reading>
     ensures { result ≡ reading_for state call }
 {
-    match (state.service, call.kind) {
-        (Some(_), CallKind::Sense) => Reading::Word(call.a, call.b),
-        (Some(_), CallKind::Tick) => Reading::Pass,
-        _ => Reading::Nothing,
+    state.service?;
+    match call.kind {
+        CallKind::Sense => Some(Reading::Word(call.a, call.b)),
+        CallKind::Tick => Some(Reading::Pass),
+        _ => None,
     }
 }
 
@@ -37,20 +37,20 @@ pub fn decide(state: State, call: Call, read: Result<(), ReadRefusal>, legs: Sna
     ensures value { result ≡ decide call state read legs }
     ensures refusal { IfRefused state result }
 {
-    match state.service {
+    let decided = match state.service {
         None => decide_out(state, call, legs),
         Some(service) => decide_in(state, service, call, read, legs),
-    }
+    };
+    decided.unwrap_or_else(|refusal| Decision::refused(refusal, state))
 }
 
 // Out of service, only its start is taken.
-fn decide_out(state: State, call: Call, legs: Snapshot) -> Decision
-    ensures { result ≡ decide_out call state legs }
+fn decide_out(state: State, call: Call, legs: Snapshot) -> Result<Decision, Refusal>
+    ensures { decided state result ≡ decide_out call state legs }
 {
-    if call.kind == CallKind::StartService {
-        start(state, call.a, call.b, legs.more)
-    } else {
-        Decision::refused(Refusal::OutOfService, state)
+    match call.kind {
+        CallKind::StartService => start(state, call.a, call.b, legs.more),
+        _ => Err(Refusal::OutOfService),
     }
 }
 
@@ -60,29 +60,32 @@ fn decide_in(
     call: Call,
     read: Result<(), ReadRefusal>,
     legs: Snapshot,
-) -> Decision
-    ensures { result ≡ decide_in call.kind service call state read legs }
+) -> Result<Decision, Refusal>
+    ensures { decided state result ≡ decide_in call.kind service call state read legs }
 {
     let together = legs.combined_position();
     let position = service.profile.reported(together);
     match call.kind {
-        CallKind::StartService => Decision::refused(Refusal::AlreadyInService, state),
+        CallKind::StartService => Err(Refusal::AlreadyInService),
         CallKind::CheckVersion => connect(state, Step::Check(call.a), position),
         CallKind::ReportStatus => connect(state, Step::Report, position),
         CallKind::FinishReport => connect(state, Step::Finish, position),
         CallKind::LoseConnection => connect(state, Step::Lost, position),
         CallKind::MovePoint => order(state, call.a, together),
         CallKind::Sense => sensed(state, service, read, legs),
-        CallKind::Tick => judge(state, service, true, legs),
+        CallKind::Tick => Ok(judge(state, service, true, legs)),
     }
 }
 
 // A word that was not taken is not judged.
-fn sensed(state: State, service: Service, read: Result<(), ReadRefusal>, legs: Snapshot) -> Decision
-    ensures { result ≡ sensed read service state legs }
+fn sensed(
+    state: State,
+    service: Service,
+    read: Result<(), ReadRefusal>,
+    legs: Snapshot,
+) -> Result<Decision, Refusal>
+    ensures { decided state result ≡ sensed read service state legs }
 {
-    match read {
-        Ok(()) => judge(state, service, false, legs),
-        Err(refusal) => Decision::refused(Refusal::of_read(refusal), state),
-    }
+    read?;
+    Ok(judge(state, service, false, legs))
 }

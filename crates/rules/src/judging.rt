@@ -43,12 +43,12 @@ impl Course {
     }
 
     // A timeout leaves legs short of their end with their drives on: they are all switched off.
-    fn command(self) -> Command
+    fn command(self) -> Option<Command>
         ensures { result ≡ course_command self }
     {
         match self {
-            Course::TimedOut => Command::HaltAll,
-            Course::Closed | Course::Open(_) | Course::Arrived => Command::Leave,
+            Course::TimedOut => Some(Command::HaltAll),
+            Course::Closed | Course::Open(_) | Course::Arrived => None,
         }
     }
 }
@@ -74,7 +74,7 @@ fn course_of(movement: Option<Movement>, limit: u16, ticking: bool, together: Po
 {
     match movement {
         None => Course::Closed,
-        Some(movement) if together == movement.end.position() => Course::Arrived,
+        Some(movement) if together == Position::from(movement.end) => Course::Arrived,
         Some(movement) if ticking => aged(movement, limit),
         Some(movement) => Course::Open(movement),
     }
@@ -124,7 +124,7 @@ fn conclude(
     let mut message = Message::Nothing;
     if tells(state, course, position) {
         after.told = Some(position);
-        message = Message::of_position(position);
+        message = Message::from(position);
     }
     let timeout = timeout_message(course, profile, state.is_up());
     let (first, second) = in_order(message, timeout);

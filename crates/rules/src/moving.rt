@@ -1,46 +1,33 @@
 // An order to move.
 ghost use Rattle.std.specs.Prelude.{◌≡◌};
-ghost use Rattle.rules.specs.Moving.{already_there, end_asked, move_to, order, set_off};
+ghost use Rattle.rules.specs.Decisions.{decided};
+ghost use Rattle.rules.specs.Moving.{already_there, move_to, order, set_off};
 
 use crate::decision::{Command, Decision};
 use legs::{End, Position};
-use records::{Message, Refusal, Verdict};
+use records::{Message, Refusal, Verdict, silent};
 use state::{Movement, State};
 
-// The end that the argument of an order names, if it names one.
-pub fn end_asked(a: u16) -> Option<End>
-    ensures { result ≡ end_asked a }
-{
-    match a {
-        1 => Some(End::Left),
-        2 => Some(End::Right),
-        _ => None,
-    }
-}
-
 // An order, where the legs together show this.
-pub fn order(state: State, a: u16, together: Position) -> Decision
-    ensures { result ≡ order state a together }
+pub fn order(state: State, a: u16, together: Position) -> Result<Decision, Refusal>
+    ensures { decided state result ≡ order state a together }
 {
     if !state.is_up() {
-        return Decision::refused(Refusal::WrongConnection, state);
+        return Err(Refusal::WrongConnection);
     }
-    match end_asked(a) {
-        None => Decision::refused(Refusal::NoSuchEnd, state),
-        Some(end) => move_to(state, end, together),
-    }
+    let end = End::try_from(a)?;
+    Ok(move_to(state, end, together))
 }
 
 fn move_to(state: State, end: End, together: Position) -> Decision
     ensures { result ≡ move_to state state.movement end together }
 {
     match state.movement {
-        None if together == end.position() => already_there(state, together),
+        None if together == Position::from(end) => already_there(state, together),
         None => set_off(state, Verdict::Opened, end),
         // A repeated order restarts neither the clock nor a leg.
         Some(movement) if movement.end == end => {
-            let answer = (Verdict::AlreadyMoving, Message::Nothing, Message::Nothing);
-            Decision::answered(state, answer, Command::Leave)
+            Decision::answered(state, silent(Verdict::AlreadyMoving), None)
         }
         Some(_) => set_off(state, Verdict::Reversed, end),
     }
@@ -56,10 +43,10 @@ fn already_there(state: State, position: Position) -> Decision
     };
     let answer = (
         Verdict::AlreadyThere,
-        Message::of_position(position),
+        Message::from(position),
         Message::Nothing,
     );
-    Decision::answered(told, answer, Command::Leave)
+    Decision::answered(told, answer, None)
 }
 
 // All legs are driven, and the clock starts.
@@ -68,6 +55,5 @@ fn set_off(state: State, verdict: Verdict, end: End) -> Decision
 {
     let movement = Some(Movement { end, elapsed: 0 });
     let moving = State { movement, ..state };
-    let answer = (verdict, Message::Nothing, Message::Nothing);
-    Decision::answered(moving, answer, Command::DriveTo(end))
+    Decision::answered(moving, silent(verdict), Some(Command::DriveTo(end)))
 }

@@ -1,25 +1,23 @@
 // The start of service.
 ghost use Rattle.std.specs.Prelude.{◌≡◌};
+ghost use Rattle.rules.specs.Decisions.{decided};
 ghost use Rattle.rules.specs.Starting.{start};
 
 use crate::decision::{Command, Decision};
-use records::{Message, Refusal, Verdict};
+use records::{Refusal, Verdict, silent};
 use state::{Service, State};
 
 // For a point that is out of service, with the arguments of the call.
-pub fn start(state: State, a: u16, b: u16, too_many_legs: bool) -> Decision
-    ensures { result ≡ start state a b too_many_legs }
+pub fn start(state: State, a: u16, b: u16, too_many_legs: bool) -> Result<Decision, Refusal>
+    ensures { decided state result ≡ start state a b too_many_legs }
 {
     if too_many_legs {
-        return Decision::refused(Refusal::TooManyLegs, state);
+        return Err(Refusal::TooManyLegs);
     }
-    let Some(service) = Service::asked(a, b) else {
-        return Decision::refused(Refusal::UnusableSettings, state);
-    };
+    let service = Service::asked(a, b).ok_or(Refusal::UnusableSettings)?;
     let started = State {
         service: Some(service),
         ..state
     };
-    let answer = (Verdict::Plain, Message::Nothing, Message::Nothing);
-    Decision::answered(started, answer, Command::HaltAll)
+    Ok(Decision::answered(started, silent(Verdict::Plain), Some(Command::HaltAll)))
 }

@@ -4,26 +4,17 @@ ghost use Rattle.rules.specs.Switches.{leg_arrived, legs_arrived, no_leg};
 
 use records::{LegStatus, Snapshot};
 
+// For each of legs 0 to 4, whether it is.
 #[derive(Clone, Copy)]
 pub struct Switches {
-    pub leg0: bool,
-    pub leg1: bool,
-    pub leg2: bool,
-    pub leg3: bool,
-    pub leg4: bool,
+    pub legs: [bool; 5],
 }
 
 impl Switches {
     pub fn none() -> Switches
         ensures { result ≡ no_leg }
     {
-        Switches {
-            leg0: false,
-            leg1: false,
-            leg2: false,
-            leg3: false,
-            leg4: false,
-        }
+        Switches { legs: [false; 5] }
     }
 
     // The legs that are where they are driven.
@@ -31,11 +22,7 @@ impl Switches {
         ensures { result ≡ legs_arrived legs }
     {
         Switches {
-            leg0: has_arrived(Some(legs.leg0)),
-            leg1: has_arrived(legs.leg1),
-            leg2: has_arrived(legs.leg2),
-            leg3: has_arrived(legs.leg3),
-            leg4: has_arrived(legs.leg4),
+            legs: legs.legs().map(has_arrived),
         }
     }
 }
@@ -43,8 +30,5 @@ impl Switches {
 fn has_arrived(leg: Option<LegStatus>) -> bool
     ensures { result ≡ leg_arrived leg }
 {
-    match leg {
-        Some(leg) => leg.driven.has_reached(leg.shows),
-        None => false,
-    }
+    leg.is_some_and(LegStatus::has_arrived)
 }

@@ -4,5 +4,5 @@
 mod service;
 mod state;
 
-pub use service::{LONGEST_LIMIT, Profile, Service};
+pub use service::{LONGEST_LIMIT, NoSuchProfile, Profile, Service};
 pub use state::{Connection, Movement, State};

@@ -1,6 +1,6 @@
 // What the start of service fixes: how long a movement may take, and what is reported.
-ghost use Rattle.std.specs.Prelude.{◌≡◌};
-ghost use Rattle.state.specs.Service.{profile_asked, reported, service_asked};
+ghost use Rattle.std.specs.Prelude.{◌≡◌, ok_or};
+ghost use Rattle.state.specs.Service.{no_such_profile, profile_asked, reported, service_asked};
 
 use legs::Position;
 
@@ -15,17 +15,6 @@ pub enum Profile {
 }
 
 impl Profile {
-    // The profile with this number, if there is one.
-    pub fn asked(number: u16) -> Option<Profile>
-        ensures { result ≡ profile_asked number }
-    {
-        match number {
-            0 => Some(Profile::Basic),
-            1 => Some(Profile::Extended),
-            _ => None,
-        }
-    }
-
     // How a position is reported in this profile.
     pub fn reported(self, position: Position) -> Position
         ensures { result ≡ reported self position }
@@ -33,6 +22,25 @@ impl Profile {
         match (self, position) {
             (Profile::Basic, Position::Trailed) => Position::NoEndPosition,
             _ => position,
+        }
+    }
+}
+
+// A number that no profile has.
+#[derive(Clone, Copy, PartialEq, Eq, Debug)]
+pub struct NoSuchProfile;
+
+// The profile with this number.
+impl TryFrom<u16> for Profile {
+    type Error = NoSuchProfile;
+
+    ghost try_from_gives = { λ number r. r ≡ ok_or (profile_asked number) no_such_profile };
+
+    fn try_from(number: u16) -> Result<Profile, NoSuchProfile> {
+        match number {
+            0 => Ok(Profile::Basic),
+            1 => Ok(Profile::Extended),
+            _ => Err(NoSuchProfile),
         }
     }
 }
@@ -49,10 +57,9 @@ impl Service {
     pub fn asked(a: u16, b: u16) -> Option<Service>
         ensures { result ≡ service_asked a b }
     {
-        let profile = Profile::asked(b)?;
-        if a == 0 || a > LONGEST_LIMIT {
-            return None;
-        }
-        Some(Service { limit: a, profile })
+        let profile = Profile::try_from(b).ok()?;
+        (1..=LONGEST_LIMIT)
+            .contains(&a)
+            .then_some(Service { limit: a, profile })
     }
 }
