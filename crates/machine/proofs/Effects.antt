@@ -1,7 +1,7 @@
 -- What no action changes.
 use Rattle.std.proofs.Common.{◌≡◌, ℕ, Bool, List, map, length, sym, refl, ap, ◌∙◌}
 use mathlib.Core.List.{map-map}
-use lib.ListN.{length-map}
+use Rattle.std.proofs.lemmas.List.{length-map}
 use Rattle.legs.specs.declared.drive.Drive.TheVariants.{Off}
 use Rattle.machine.specs.Actions.{Action, Driving, Halting, SwitchingOff, ReadingWord, Passing, drive_leg, Effect}
 use Rattle.machine.specs.Legs.{Leg, words, frame, with_position, with_drive}

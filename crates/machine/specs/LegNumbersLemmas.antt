@@ -1,15 +1,12 @@
 -- Legs by their numbers, in lists that are mapped or appended. Machines over machines rest on these.
 use Rattle.std.specs.Prelude.{◌≡◌, ℕ, zero, suc, ◌-◌, ◌<◌, ◌≤◌, Bool, true, false, cond, List, [], ◌∷◌, ◌++◌, map, length, None, nat_lt, refl}
 use Rattle.std.proofs.Common.{ap, arith}
+use Rattle.std.proofs.lemmas.Bool.{cond_both}
+use Rattle.std.proofs.lemmas.Option.{slice_get-map}
 use Rattle.std.specs.Option.{option_map}
 use Rattle.std.specs.List.{slice_get}
 use Rattle.machine.specs.Legs.{Leg}
 use Rattle.machine.specs.LegNumbers.{known_legs, leg_at, at_index, at_leg}
-
-pub nth_map : {X Y : Type 0} (f : X → Y) (xs : List X) (k : ℕ) → slice_get (map f xs) k ≡ option_map f (slice_get xs k)
-nth_map f [] k = refl
-nth_map f (x ∷ xs) zero = refl
-nth_map f (x ∷ xs) (suc k) = nth_map f xs k
 
 pub nth_front : {X : Type 0} (xs ys : List X) (k : ℕ) → k < length xs → slice_get (xs ++ ys) k ≡ slice_get xs k
 nth_front [] ys k h = absurd (omega arith)
@@ -45,21 +42,18 @@ cond_map : {X Y : Type 0} (f : X → Y) (b : Bool) (x y : X) → f (cond b x y) 
 cond_map f true x y = refl
 cond_map f false x y = refl
 
-pub cond_same : {X : Type 0} (b : Bool) (x : X) → cond b x x ≡ x
-cond_same true x = refl
-cond_same false x = refl
-
 pub leg_at_map : (f : Leg → Leg) (m : List Leg) (k : ℕ) → leg_at (map f m) k ≡ option_map f (leg_at m k)
-leg_at_map f m k = rw (cond_map (option_map f) (nat_lt k known_legs) (slice_get m k) None, nth_map f m k) refl
+leg_at_map f m k = rw (cond_map (option_map f) (nat_lt k known_legs) (slice_get m k) None, slice_get-map f m k) refl
 
 pub at_leg_map : (h f g : Leg → Leg) → ((l : Leg) → h (f l) ≡ g (h l)) → (k : ℕ) (m : List Leg) → map h (at_leg f k m) ≡ at_leg g k (map h m)
 at_leg_map h f g same k m = rw (cond_map (map h) (nat_lt k known_legs) (at_index f k m) m, at_index_map h f g same k m) refl
 
 -- what the change of one leg keeps of every leg
-pub at_index_keeps : {X Y : Type 0} (q : X → Y) (f : X → X) → ((x : X) → q (f x) ≡ q x) → (k : ℕ) (xs : List X) → map q (at_index f k xs) ≡ map q xs
+at_index_keeps : {X Y : Type 0} (q : X → Y) (f : X → X) → ((x : X) → q (f x) ≡ q x) → (k : ℕ) (xs : List X) → map q (at_index f k xs) ≡ map q xs
 at_index_keeps q f same k [] = refl
 at_index_keeps q f same zero (x ∷ xs) = ap (λ y. y ∷ map q xs) (same x)
 at_index_keeps q f same (suc k) (x ∷ xs) = ap (λ ys. q x ∷ ys) (at_index_keeps q f same k xs)
 
 pub at_leg_keeps : {Y : Type 0} (q : Leg → Y) (f : Leg → Leg) → ((l : Leg) → q (f l) ≡ q l) → (k : ℕ) (m : List Leg) → map q (at_leg f k m) ≡ map q m
-at_leg_keeps q f same k m = rw (cond_map (map q) (nat_lt k known_legs) (at_index f k m) m, at_index_keeps q f same k m) (cond_same (nat_lt k known_legs) (map q m))
+at_leg_keeps q f same k m =
+    cond_both (nat_lt k known_legs) (at_index f k m) m (λ n. map q n ≡ map q m) (λ e. at_index_keeps q f same k m) (λ e. refl)

@@ -1,7 +1,7 @@
 -- A make of one leg keeps the laws of a machine.
 use Rattle.std.specs.Prelude.{◌≡◌, ℕ, zero, suc, false, [], ◌∷◌, ◌==◌, nat_lt, refl}
 use Rattle.std.proofs.Common.{arith, ap}
-use Rattle.std.proofs.lemmas.Bool.{ne_eqb}
+use Rattle.std.proofs.lemmas.Bool.{cond_both, ne_eqb}
 use Rattle.legs.specs.declared.drive.Drive.{Drive}
 use Rattle.legs.specs.declared.drive.Drive.TheVariants.{Off}
 use Rattle.machine.specs.Actions.{Action, Driving, Halting, SwitchingOff, ReadingWord, Passing, Effect}
@@ -9,7 +9,6 @@ use Rattle.legs.specs.Ends.{drive_towards}
 use Rattle.machine.specs.Laws.{Laws}
 use Rattle.machine.specs.Legs.{Leg, with_position, with_drive, frame}
 use Rattle.machine.specs.LegNumbers.{known_legs, at_leg}
-use Rattle.machine.specs.LegNumbersLemmas.{cond_same}
 use Rattle.machine.specs.SingleLegs.{SingleLaws, single_legs, single_after, single_does}
 
 -- two legs that differ at most in what they show
@@ -20,7 +19,7 @@ not_first : (k : ℕ) → (suc k == 0) ≡ false
 not_first k = ne_eqb (suc k) 0 (λ e. omega arith)
 
 no_other : (f : Leg → Leg) (k : ℕ) (l : Leg) → at_leg f (suc k) (l ∷ []) ≡ l ∷ []
-no_other f k l = cond_same (nat_lt (suc k) known_legs) (l ∷ [])
+no_other f k l = cond_both (nat_lt (suc k) known_legs) (l ∷ []) (l ∷ []) (λ m. m ≡ l ∷ []) (λ e. refl) (λ e. refl)
 
 module _ {M : Type 0} {leg : M → Leg} {driving : Drive → M → M} {reading : ℕ → M → M} {passing : M → M} (kept : SingleLaws leg driving reading passing) where
   alone : {l k : Leg} → l ≡ k → l ∷ [] ≡ k ∷ []

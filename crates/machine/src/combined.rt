@@ -12,9 +12,7 @@ pub fn combined_position<M: Machine>(machine: &M) -> Position
     ensures known { result ≡ combined (positions (known_part (M.meaning machine.now))) }
     ensures whole { length (M.meaning machine.now) ≤ known_legs → result ≡ combined (positions (M.meaning machine.now)) }
 {
-    let mut together = machine.show(0);
-    for leg in 1..machine.count().min(KNOWN_LEGS) {
-        together = together.join(machine.show(leg));
-    }
-    together
+    (1..machine.count().min(KNOWN_LEGS))
+        .map(|leg| machine.show(leg))
+        .fold(machine.show(0), Position::join)
 }

@@ -1,6 +1,7 @@
 // A machine of one leg: one motor with its detector.
-ghost use Rattle.std.specs.Prelude.{◌≡◌, ℕ, if◌then◌else◌};
+ghost use Rattle.std.specs.Prelude.{◌≡◌, ℕ, MatchResult, Some};
 ghost use Rattle.legs.specs.declared.drive.Drive.{Drive};
+ghost use Rattle.machine.specs.LegNumbers.{answer_of};
 ghost use Rattle.machine.specs.Legs.{Leg};
 ghost use Rattle.machine.specs.SingleLegs.{SingleLaws, single_does, single_legs};
 ghost use Rattle.machine.specs.OneLeg.{single_laws};
@@ -34,10 +35,10 @@ pub trait SingleLeg {
     fn set_drive(&mut self, drive: Drive)
         ensures { self.new ≡ driving drive self.old };
 
-    // Takes a word, or answers false where it is unreadable and keeps all.
-    fn take_word(&mut self, word: u16) -> bool
-        ensures answer { result ≡ (leg self.old).reads word }
-        ensures after { self.new ≡ (if result then reading word self.old else self.old) };
+    // Takes a word, or refuses one that is unreadable and keeps all.
+    fn take_word(&mut self, word: u16) -> Result<(), ReadRefusal>
+        ensures answer { result ≡ answer_of (Some (leg self.old)) word }
+        ensures after { MatchResult result (λ _. self.new ≡ reading word self.old) (λ _. self.new ≡ self.old) };
 
     // Lets one tick pass.
     fn pass_tick(&mut self)
@@ -74,7 +75,7 @@ impl<M: SingleLeg> Machine for M {
     }
 
     fn drive(&mut self, end: End) {
-        self.set_drive(end.drive());
+        self.set_drive(Drive::from(end));
     }
 
     fn halt(&mut self) {
@@ -91,11 +92,7 @@ impl<M: SingleLeg> Machine for M {
         if leg != 0 {
             return Err(ReadRefusal::MissingLeg);
         }
-        if self.take_word(word) {
-            Ok(())
-        } else {
-            Err(ReadRefusal::UnreadableWord)
-        }
+        self.take_word(word)
     }
 
     fn pass(&mut self) {

@@ -1,5 +1,5 @@
 -- A model stays within its range, and arrives on time.
-use Rattle.std.proofs.Common.{◌≡◌, ℕ, zero, suc, ◌+◌, ◌-◌, ◌<◌, ◌≤◌, min, Bool, true, false, cond, eqb, ltb, leb, refl, arith}
+use Rattle.std.proofs.Common.{◌≡◌, ℕ, zero, suc, ◌+◌, ◌-◌, ◌<◌, ◌≤◌, min, cond, eqb, ltb, leb, refl, arith}
 use Rattle.std.proofs.lemmas.Bool.{cond_both, ltb-true, leb-true, eq-eqb, ne_eqb}
 use Rattle.std.proofs.lemmas.Bool.Decides.{nat_tests}
 use Rattle.legs.specs.declared.drive.Drive.{Drive}
@@ -32,14 +32,11 @@ read_in_range w x h = record {
 passed_in_range : (x : Model) → InRange x → InRange (model_passing x)
 passed_in_range x h = record { shortest = h.shortest; longest = h.longest; within = place_within x.drive x.place x.travel h.within }
 
-either : (b : Bool) (x y : Model) → InRange x → InRange y → InRange (cond b x y)
-either b x y h i = elim b as (λ v. InRange (cond v x y)) [ true ↦ h | false ↦ i ]
-
 after_in_range : (a : Action) (x : Model) → InRange x → InRange (single_after model_driving model_reading model_passing a x)
 after_in_range (Driving e) x h = driven_in_range (drive_towards e) x h
 after_in_range Halting x h = driven_in_range drive.Off x h
-after_in_range (SwitchingOff k) x h = either (eqb k 0) (model_driving drive.Off x) x (driven_in_range drive.Off x h) h
-after_in_range (ReadingWord k w) x h = either (eqb k 0) (model_reading w x) x (read_in_range w x h) h
+after_in_range (SwitchingOff k) x h = cond_both (eqb k 0) (model_driving drive.Off x) x InRange (λ e. driven_in_range drive.Off x h) (λ e. h)
+after_in_range (ReadingWord k w) x h = cond_both (eqb k 0) (model_reading w x) x InRange (λ e. read_in_range w x h) (λ e. h)
 after_in_range Passing x h = passed_in_range x h
 
 pub stays_in_range : StaysInRange

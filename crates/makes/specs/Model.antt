@@ -7,7 +7,7 @@
 -- model_driving  its value after it was given a drive
 -- model_reading  its value after a word
 -- model_passing  its value after a tick
-use Rattle.std.specs.Prelude.{ℕ, ◌+◌, ◌-◌, min, max, cond, leb, ◌==◌, nat_le, nat_lt}
+use Rattle.std.specs.Prelude.{ℕ, ◌+◌, ◌-◌, min, max, cond, ◌==◌, nat_le, nat_lt}
 use Rattle.legs.specs.declared.position.Position.{Position}
 use Rattle.legs.specs.declared.position.Position.TheVariants as position
 use Rattle.legs.specs.declared.drive.Drive.{Drive}
@@ -27,7 +27,7 @@ place_after Right place travel = cond (nat_lt place travel) (place + 1) place
 place_after Off place travel = place
 
 abbrev pub model_leg : Model → Leg
-model_leg x = leg_of (place_shows x.place x.travel) x.drive (λ w. leb w x.travel)
+model_leg x = leg_of (place_shows x.place x.travel) x.drive (λ w. nat_le w x.travel)
 
 abbrev pub new_model : ℕ → Model
 new_model d = record { travel = in_range 1 600 d; place = 0; drive = Off }

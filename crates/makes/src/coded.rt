@@ -1,30 +1,21 @@
 // A leg whose detector sends a code in the high byte of a word, and in the low byte what the code lacks of 255.
-ghost use Rattle.std.specs.Prelude.{◌≡◌};
-ghost use Rattle.makes.specs.Coded.{decode_coded, new_coded};
+ghost use Rattle.makes.specs.Coded.{decode_coded};
 
 use crate::detected::{Decoder, Detected};
 use legs::Position;
 
-#[derive(Clone, Copy)]
+#[derive(Clone, Copy, Default)]
 pub struct CodedWords;
 
 pub type Coded = Detected<CodedWords>;
-
-impl Detected<CodedWords> {
-    pub fn new() -> Coded
-        ensures { result ≡ new_coded }
-    {
-        Detected::by(CodedWords)
-    }
-}
 
 impl Decoder for CodedWords {
     ghost decodes = { decode_coded };
 
     // A word is readable if its two bytes agree and there is such a code.
     fn decode(&self, word: u16) -> Option<Position> {
-        let code = word / 256;
-        if word % 256 + code != 255 {
+        let [code, check] = word.to_be_bytes();
+        if check != 255 - code {
             return None;
         }
         match code {

@@ -4,7 +4,7 @@ ghost use Rattle.legs.specs.declared.position.Position.{Position};
 ghost use Rattle.makes.specs.Detected.{detected_driving, detected_reading, detected_leg, detected_passing, new_detected};
 ghost use Rattle.std.proofs.Common.{rules};
 
-use legs::{Drive, Position};
+use legs::{Drive, Position, ReadRefusal};
 use machine::SingleLeg;
 
 // How a detector writes positions into words.
@@ -36,6 +36,16 @@ impl<D> Detected<D> {
     }
 }
 
+impl<D: Default> Detected<D> {
+    // The same with the decoder of its kind.
+    pub fn new() -> Detected<D>
+        ensures decoder { D.is_default result.decoder }
+        ensures start { result ≡ new_detected result.decoder }
+    {
+        Detected::by(D::default())
+    }
+}
+
 impl<D: Decoder> SingleLeg for Detected<D> {
     ghost leg = { detected_leg D.Decoder.decodes };
 
@@ -59,12 +69,13 @@ impl<D: Decoder> SingleLeg for Detected<D> {
         self.drive = drive;
     }
 
-    fn take_word(&mut self, word: u16) -> bool {
-        let Some(position) = self.decoder.decode(word) else {
-            return false;
-        };
+    fn take_word(&mut self, word: u16) -> Result<(), ReadRefusal> {
+        let position = self
+            .decoder
+            .decode(word)
+            .ok_or(ReadRefusal::UnreadableWord)?;
         self.position = position;
-        true
+        Ok(())
     }
 
     // The detector alone tells where the leg is.

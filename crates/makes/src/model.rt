@@ -4,7 +4,7 @@ ghost use Rattle.makes.specs.Throws.{Arrives, StaysInRange};
 ghost use Rattle.makes.specs.Model.{model_driving, model_reading, model_leg, model_passing, new_model};
 ghost use Rattle.std.proofs.Common.{rules};
 
-use legs::{Drive, Position};
+use legs::{Drive, Position, ReadRefusal};
 use machine::SingleLeg;
 
 const LONGEST_TRAVEL: u16 = 600;
@@ -59,12 +59,12 @@ impl SingleLeg for Model {
         self.drive = drive;
     }
 
-    fn take_word(&mut self, word: u16) -> bool {
+    fn take_word(&mut self, word: u16) -> Result<(), ReadRefusal> {
         if word > self.travel {
-            return false;
+            return Err(ReadRefusal::UnreadableWord);
         }
         self.place = word;
-        true
+        Ok(())
     }
 
     // The tongue moves one place towards the driven end, until it is there.
@@ -78,11 +78,13 @@ impl SingleLeg for Model {
 }
 
 // A model never leaves its range.
+#[tactic(auto, using(crate::proofs::Throwing::stays_in_range))]
 pub fn model_stays_in_range()
     ensures { StaysInRange }
 {}
 
 // A model reaches an end on the very tick that the way to it needs.
+#[tactic(auto, using(crate::proofs::Throwing::arrives))]
 pub fn model_arrives()
     ensures { Arrives }
 {}

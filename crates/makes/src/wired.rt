@@ -1,23 +1,14 @@
 // A leg whose detector contacts are wired straight to the bits of a word.
-ghost use Rattle.std.specs.Prelude.{◌≡◌};
-ghost use Rattle.makes.specs.Wired.{new_wired, decode_wired};
+ghost use Rattle.makes.specs.Wired.{decode_wired};
 
 use crate::detected::{Decoder, Detected};
 use legs::Position;
 
 // Bit 0 is the left contact, bit 1 the right one, bit 2 says that the point was trailed.
-#[derive(Clone, Copy)]
+#[derive(Clone, Copy, Default)]
 pub struct WiredWords;
 
 pub type Wired = Detected<WiredWords>;
-
-impl Detected<WiredWords> {
-    pub fn new() -> Wired
-        ensures { result ≡ new_wired }
-    {
-        Detected::by(WiredWords)
-    }
-}
 
 impl Decoder for WiredWords {
     ghost decodes = { decode_wired };

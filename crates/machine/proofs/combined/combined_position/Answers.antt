@@ -1,29 +1,19 @@
-use Rattle.std.proofs.Common.{◌≡◌, ◌<◌, min, length, ap, ◌∙◌, ap₂, arith}
+use Rattle.std.proofs.Common.{◌≡◌, ◌-◌, min, map, ap, ◌∙◌, rules, refl}
+use Rattle.std.proofs.lemmas.Iterator.{YieldsList-from_range, YieldsList-from_map}
+use Rattle.std.proofs.lemmas.Iterator.Consumers.{YieldsList-at, fold_from_yields_List}
 use Rattle.std.proofs.lemmas.List.{take_all}
+use Rattle.std.specs.List.{fold, range_with_len}
 use Rattle.legs.specs.Combined.{combined, joined}
 use Rattle.machine.specs.Legs.{positions}
-use Rattle.machine.specs.LegNumbers.{known_legs, known_part}
-use Rattle.machine.proofs.Together.{first_shown, next_shown, known_taken}
+use Rattle.machine.specs.LegNumbers.{count_of, known_legs, known_part, shown_at}
+use Rattle.machine.proofs.Together.{all_shown}
 use Rattle.machine.proofs.combined.combined_position.Goals as goal
-
-pub loop-leg-init : goal.loop-leg-init
-loop-leg-init g c =
-    let m = g.M.Machine.meaning c.args.machine.now in
-    c.show-together.ensures ∙ first_shown m (g.met.M.Machine.kept.some_leg c.args.machine.now)
-
-pub loop-leg-preserved : goal.loop-leg-preserved
-loop-leg-preserved g c =
-    let m = g.M.Machine.meaning c.args.machine.now in
-    let k = c.loop-leg.leg in
-    let within : k < length m = omega arith in
-    let known : k < 5 = omega arith in
-    c.join-together.ensures ∙ ap₂ joined c.loop-leg.invariant c.show.ensures ∙ next_shown m k c.loop-leg.auto.leg within known
 
 pub returns : goal.returns
 returns g c =
     let m = g.M.Machine.meaning c.args.machine.now in
-    let some : 0 < length m = g.met.M.Machine.kept.some_leg c.args.machine.now in
-    let all : c.loop-leg.leg ≡ min (length m) known_legs = omega arith in
-    let known : c.loop-leg.together ≡ combined (positions (known_part m)) =
-    c.loop-leg.invariant ∙ ap (λ part. combined (positions part)) (known_taken m c.loop-leg.leg all) in
+    let n = min (count_of m) known_legs in
+    let run : c.fold.result ≡ fold joined (shown_at m 0) (map (shown_at m) (range_with_len 1 (n - 1))) =
+    rw (← c.show.ensures) (fold_from_yields_List _ joined c.show.result c.fold.result c.fold.ensures.ran (YieldsList-from_map _ (shown_at m) (YieldsList-at c.map.ensures.source (YieldsList-from_range 1 n (n - 1) (search rules) refl)) c.map.ensures.closure (λ x r q k. search rules)) (λ a x b q k. search rules)) in
+    let known : c.fold.result ≡ combined (positions (known_part m)) = run ∙ all_shown m (g.met.M.Machine.kept.some_leg c.args.machine.now) in
     record { known = known; whole = λ few. known ∙ ap (λ part. combined (positions part)) (take_all known_legs m few) }
