@@ -15,7 +15,7 @@ first_shown [] some = absurd (omega arith)
 first_shown (l ∷ m) some = alone_shows l.shows
 
 -- a leg with a number that callers can use is there
-known_leg : (m : List Leg) (k : ℕ) (d : Leg) → k < length m → k < known_legs → leg_at m k ≡ Some (get_or m k d)
+pub known_leg : (m : List Leg) (k : ℕ) (d : Leg) → k < length m → k < known_legs → leg_at m k ≡ Some (get_or m k d)
 known_leg m k d within known = rw (lt-ltb k known_legs known) (slice_get-get_or m k d within)
 
 next_shown : (m : List Leg) (k : ℕ) → 0 < k → k < length m → k < known_legs → joined (combined (positions (take k m))) (shown_at m k) ≡ combined (positions (take (k + 1) m))

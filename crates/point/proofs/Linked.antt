@@ -1,21 +1,38 @@
--- Chains put together.
-use Rattle.std.proofs.Common.{List, [], ◌∷◌, ◌++◌, drop, refl}
+-- Chains put together, and the actions of switches that are taken with their numbers.
+use Rattle.std.proofs.Common.{◌≡◌, ℕ, zero, suc, ◌+◌, Bool, List, [], ◌∷◌, ◌++◌, map, length, refl, sym, ap, ◌∙◌, append_assoc, append-nil, arith}
+use Rattle.std.proofs.lemmas.List.{map_push}
+use Rattle.std.specs.List.{range_with_len, zip}
 use Rattle.machine.specs.Actions.{Action}
-use Rattle.point.specs.Chains.{Chain, actions_of, command_actions, off_action, off_actions}
-use Rattle.rules.specs.declared.decision.Commands.{Commands}
-use Rattle.rules.specs.Switches.{switch_list}
+use Rattle.point.specs.Chains.{Chain, off_action, off_actions}
 
 pub linked : {M : Type 0} (does : M → Action → M → Type 0) (front back : List Action) (x y z : M) → Chain does x front y → Chain does y back z → Chain does x (front ++ back) z
 linked does [] back x y z h k = rw h at k
 linked does (a ∷ front) back x y z h k = (h.0, (h.1.0, linked does front back h.0 y z h.1.1 k))
 
--- five switches, then what is done to all legs
-pub all_carried : {M : Type 0} (does : M → Action → M → Type 0) (commands : Commands) (x x0 x1 x2 x3 x4 y : M) → Chain does x (off_action 0 commands.off.leg0) x0 → Chain does x0 (off_action 1 commands.off.leg1) x1 → Chain does x1 (off_action 2 commands.off.leg2) x2 → Chain does x2 (off_action 3 commands.off.leg3) x3 → Chain does x3 (off_action 4 commands.off.leg4) x4 → Chain does x4 (command_actions commands.then) y → Chain does x (actions_of commands) y
-all_carried does commands x x0 x1 x2 x3 x4 y h0 h1 h2 h3 h4 all =
-    let off = switch_list commands.off in
-    let last = linked does (off_action 4 commands.off.leg4) [] x3 x4 x4 h4 refl in
-    let from3 = linked does (off_action 3 commands.off.leg3) (off_actions 4 (drop 4 off)) x2 x3 x4 h3 last in
-    let from2 = linked does (off_action 2 commands.off.leg2) (off_actions 3 (drop 3 off)) x1 x2 x4 h2 from3 in
-    let from1 = linked does (off_action 1 commands.off.leg1) (off_actions 2 (drop 2 off)) x0 x1 x4 h1 from2 in
-    let from0 = linked does (off_action 0 commands.off.leg0) (off_actions 1 (drop 1 off)) x x0 x4 h0 from1 in
-    linked does (off_actions 0 off) (command_actions commands.then) x x4 y from0 all
+abbrev pub numbered : List (ℕ × Bool) → List Action
+numbered [] = []
+numbered (leg ∷ legs) = off_action leg.0 leg.1 ++ numbered legs
+
+numbered_push : (legs : List (ℕ × Bool)) (k : ℕ) (off : Bool) → numbered (legs ++ ((k, off) ∷ [])) ≡ numbered legs ++ off_action k off
+numbered_push [] k off = append-nil (off_action k off)
+numbered_push (leg ∷ legs) k off =
+    ap (λ rest. off_action leg.0 leg.1 ++ rest) (numbered_push legs k off)
+    ∙ sym (append_assoc (off_action leg.0 leg.1) (numbered legs) (off_action k off))
+
+-- one leg more, however it is given
+pub one_more : {M X : Type 0} (does : M → Action → M → Type 0) (given : X → ℕ × Bool) (taken : List X) (leg : X) (x y z : M) → Chain does x (numbered (map given taken)) y → Chain does y (off_action (given leg).0 (given leg).1) z → Chain does x (numbered (map given (taken ++ (leg ∷ [])))) z
+one_more does given taken leg x y z h k =
+    rw (map_push given taken leg, numbered_push (map given taken) (given leg).0 (given leg).1)
+    (linked does (numbered (map given taken)) (off_action (given leg).0 (given leg).1) x y z h k)
+
+numbered_none : (k n : ℕ) → numbered (zip (range_with_len k n) []) ≡ []
+numbered_none k zero = refl
+numbered_none k (suc n) = refl
+
+pub numbered_all : (k n : ℕ) (offs : List Bool) → length offs ≡ n → numbered (zip (range_with_len k n) offs) ≡ off_actions k offs
+numbered_all k n [] long = numbered_none k n
+numbered_all k zero (off ∷ offs) long = absurd (omega (arith, long))
+numbered_all k (suc n) (off ∷ offs) long =
+    let next : k + 1 ≡ suc k = omega arith in
+    ap (λ j. off_action k off ++ numbered (zip (range_with_len j n) offs)) next
+    ∙ ap (λ rest. off_action k off ++ rest) (numbered_all (suc k) n offs (omega (arith, long)))

@@ -1,11 +1,10 @@
 -- The legs of a machine by their numbers, and the snapshot made of them.
 use Rattle.std.proofs.Common.{◌≡◌, ℕ, ◌<◌, ◌≤◌, min, ltb, List, [], ◌∷◌, map, length, Some, None, Option, unwrap_or, sym, refl, ◌∙◌, ⊎_elim, arith}
 use lib.ListN.{length-map}
-use Rattle.std.proofs.lemmas.Option.{slice_get_past}
+use Rattle.std.proofs.lemmas.Option.{slice_get-map, slice_get_past}
 use Rattle.std.proofs.lemmas.Bool.{cases_lt, lt-ltb, le-ltb}
 use Rattle.std.specs.Option.{option_map}
 use Rattle.std.specs.List.{slice_get}
-use Rattle.machine.specs.LegNumbersLemmas.{nth_map}
 use Rattle.machine.proofs.Together.{known_leg as leg_is_there}
 use Rattle.machine.specs.Legs.{Leg}
 use Rattle.machine.specs.LegNumbers.{count_of, driven_of, known_legs, leg_at, shown_of}
@@ -46,4 +45,4 @@ more_legs m =
 
 pub looked : (m : List Leg) → snapshot_of (statuses m) ≡ record { first = leg_status m 0; others = map (known_leg m) (1 ∷ (2 ∷ (3 ∷ (4 ∷ [])))); more = ltb known_legs (count_of m) }
 looked m =
-    rw (nth_map status_of m 0, nth_map status_of m 1, nth_map status_of m 2, nth_map status_of m 3, nth_map status_of m 4, length-map m status_of, first_status (slice_get m 0), more_legs m) refl
+    rw (slice_get-map status_of m 0, slice_get-map status_of m 1, slice_get-map status_of m 2, slice_get-map status_of m 3, slice_get-map status_of m 4, length-map m status_of, first_status (slice_get m 0), more_legs m) refl

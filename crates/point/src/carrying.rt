@@ -21,14 +21,20 @@ pub fn read_first<M: Machine>(machine: &mut M, reading: Option<Reading>) -> Resu
     }
 }
 
+fn switch_off_if<M: Machine>(machine: &mut M, leg: u16, off: bool)
+    ensures { Chain M.does machine.old (off_action leg off) machine.new }
+{
+    if off {
+        machine.switch_off(leg);
+    }
+}
+
 // From leg 0 on.
 fn switch_off<M: Machine>(machine: &mut M, switches: Switches)
     ensures { Chain M.does machine.old (off_actions 0 switches.legs) machine.new }
 {
-    for (leg, off) in (0..KNOWN_LEGS).zip(switches.legs) {
-        if off {
-            machine.switch_off(leg);
-        }
+    for (leg, off) in (0..KNOWN_LEGS).zip(&switches.legs) {
+        switch_off_if(machine, leg, *off);
     }
 }
 

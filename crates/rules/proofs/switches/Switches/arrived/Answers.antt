@@ -1,4 +1,4 @@
-use Rattle.std.proofs.Common.{rules, ◌≡◌, length, false, None}
+use Rattle.std.proofs.Common.{rules, ◌≡◌, length, refl, false, None}
 use Rattle.rules.specs.Switches.{leg_arrived}
 use Rattle.rules.proofs.Mapping.{mapped}
 use Rattle.rules.proofs.switches.Switches.arrived.Goals as goal
@@ -6,5 +6,5 @@ use Rattle.rules.proofs.switches.Switches.arrived.Goals as goal
 pub returns : goal.returns
 returns c =
     let long : length c.legs.result ≡ 5 = search rules in
-    let same = mapped _ leg_arrived None false (λ p x y q k. search rules) _ c.legs.result c.map.result 5 long c.map.ensures.items in
+    let same = mapped _ _ leg_arrived None false (λ p x y q s k. (refl, search rules)) c.legs.result c.map.result 5 long c.map.ensures.items in
     search rules
