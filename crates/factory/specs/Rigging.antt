@@ -1,6 +1,8 @@
 -- The rig of the factory test.
 -- Rigged       its type
--- five_motors  five models of travel 3, 4, 5, 1 and 6, the second one crossed
+-- rig_of       five models with the travels of this list, the second one crossed
+-- five_motors  the rig with travels 3, 4, 5, 1 and 6
+use Rattle.std.specs.Prelude.{ℕ, List, [], ◌∷◌, slice_index}
 use Rattle.layers.specs.declared.crossed.Crossed.{Crossed}
 use Rattle.layers.specs.declared.pair.Pair.{Pair}
 use Rattle.layers.specs.Crossed.{crossed}
@@ -11,5 +13,10 @@ use Rattle.makes.specs.Model.{new_model}
 abbrev pub Rigged : Type 0
 Rigged = Pair (Pair Model (Pair (Crossed Model) Model)) (Pair Model Model)
 
+abbrev pub rig_of : List ℕ → Rigged
+rig_of travels =
+    let leg : ℕ → Model = λ k. new_model (slice_index travels k) in
+    pair (pair (leg 0) (pair (crossed (leg 1)) (leg 2))) (pair (leg 3) (leg 4))
+
 abbrev pub five_motors : Rigged
-five_motors = pair (pair (new_model 3) (pair (crossed (new_model 4)) (new_model 5))) (pair (new_model 1) (new_model 6))
+five_motors = rig_of (3 ∷ (4 ∷ (5 ∷ (1 ∷ (6 ∷ [])))))

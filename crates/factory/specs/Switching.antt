@@ -2,8 +2,10 @@
 -- arrived_at      the leg is where it is driven
 -- off_if_arrived  that leg off if it has arrived
 -- off_below       so for each leg with a lower number, leg 0 first
+-- arrivals        which of legs 0 to 4 have arrived, each after those with a lower number
 -- AllOff          legs 0 to 4 are off
-use Rattle.std.specs.Prelude.{◌≡◌, ℕ, zero, suc, ◌<◌, Bool, cond, List}
+use Rattle.std.specs.Prelude.{◌≡◌, ℕ, zero, suc, ◌<◌, Bool, cond, List, map}
+use Rattle.std.specs.List.{range_with_len}
 use Rattle.legs.specs.declared.drive.Drive.TheVariants.{Off}
 use Rattle.legs.specs.Ends.{reached}
 use Rattle.machine.specs.Actions.{off_at}
@@ -19,6 +21,9 @@ off_if_arrived k m = cond (arrived_at m k) (off_at k m) m
 abbrev pub off_below : ℕ → List Leg → List Leg
 off_below zero m = m
 off_below (suc k) m = off_if_arrived k (off_below k m)
+
+abbrev pub arrivals : List Leg → List Bool
+arrivals m = map (λ k. arrived_at (off_below k m) k) (range_with_len 0 known_legs)
 
 abbrev pub AllOff : List Leg → Type 0
 AllOff m = (k : ℕ) → k < known_legs → driven_at m k ≡ Off

@@ -4,5 +4,5 @@
 mod rigging;
 mod switching;
 
-pub use rigging::{CROSSED_LEG, CROSSED_TRAVEL, Rig, five_motors, put_over};
+pub use rigging::{CROSSED_LEG, CROSSED_TRAVEL, Rig, five_motors, put_over, rig};
 pub use switching::{all_off, switch_off_arrived};

@@ -1,6 +1,6 @@
 // The five motors of the test.
 ghost use Rattle.std.specs.Prelude.{◌≡◌, MatchResult};
-ghost use Rattle.factory.specs.Rigging.{five_motors};
+ghost use Rattle.factory.specs.Rigging.{five_motors, rig_of};
 ghost use Rattle.machine.specs.Actions.{ReadingWord};
 ghost use Rattle.machine.specs.LegNumbers.{read_answer};
 
@@ -16,14 +16,20 @@ pub const CROSSED_LEG: u16 = 1;
 
 pub const CROSSED_TRAVEL: u16 = 4;
 
-// Legs 0 to 4 are models of travel 3, 4, 5, 1 and 6; leg 1 is crossed.
+// Legs 0 to 4 are models with these travels; leg 1 is crossed.
+pub fn rig(travels: [u16; 5]) -> Rig
+    ensures { result ≡ rig_of travels }
+{
+    let [zero, one, two, three, four] = travels.map(Model::new);
+    let front = Pair::new(zero, Pair::new(Crossed::new(one), two));
+    Pair::new(front, Pair::new(three, four))
+}
+
+// The rig with the travels of the test: 3, 4, 5, 1 and 6.
 pub fn five_motors() -> Rig
     ensures { result ≡ five_motors }
 {
-    let crossed = Crossed::new(Model::new(CROSSED_TRAVEL));
-    let front = Pair::new(Model::new(3), Pair::new(crossed, Model::new(5)));
-    let back = Pair::new(Model::new(1), Model::new(6));
-    Pair::new(front, back)
+    rig([3, CROSSED_TRAVEL, 5, 1, 6])
 }
 
 // A new model stands at its left end, which is the right end of a crossed leg: a word puts that leg over.

@@ -1,6 +1,6 @@
 // Which legs are switched off after a tick.
-ghost use Rattle.std.specs.Prelude.{◌≡◌, ℕ, ◌<◌, false, Decides, slice_index_or};
-ghost use Rattle.factory.specs.Switching.{AllOff, arrived_at, off_if_arrived, off_below};
+ghost use Rattle.std.specs.Prelude.{◌≡◌, ◌↔◌, IsTrue};
+ghost use Rattle.factory.specs.Switching.{AllOff, arrivals, arrived_at, off_if_arrived, off_below};
 
 use legs::Drive;
 use machine::{KNOWN_LEGS, Machine};
@@ -19,24 +19,21 @@ fn switch_off_if_arrived<M: Machine>(machine: &mut M, leg: u16) -> bool
 
 // Switches off the legs that have arrived, and answers which.
 pub fn switch_off_arrived<M: Machine>(machine: &mut M) -> [bool; 5]
-    ensures answer { (k : ℕ) → k < 5 → slice_index_or result k false ≡ arrived_at (off_below k (M.meaning machine.old)) k }
+    ensures answer { result ≡ arrivals (M.meaning machine.old) }
     ensures legs { M.meaning machine.new ≡ off_below 5 (M.meaning machine.old) }
 {
-    let mut arrived = [false; 5];
-    for leg in 0..KNOWN_LEGS {
-        arrived[leg as usize] = switch_off_if_arrived(machine, leg);
-    }
-    arrived
+    [
+        switch_off_if_arrived(machine, 0),
+        switch_off_if_arrived(machine, 1),
+        switch_off_if_arrived(machine, 2),
+        switch_off_if_arrived(machine, 3),
+        switch_off_if_arrived(machine, 4),
+    ]
 }
 
 // Whether legs 0 to 4 are off.
 pub fn all_off<M: Machine>(machine: &M) -> bool
-    ensures { Decides result (AllOff (M.meaning machine.now)) }
+    ensures { IsTrue result ↔ AllOff (M.meaning machine.now) }
 {
-    for leg in 0..KNOWN_LEGS {
-        if machine.driven(leg) != Drive::Off {
-            return false;
-        }
-    }
-    true
+    (0..KNOWN_LEGS).all(|leg| machine.driven(leg) == Drive::Off)
 }

@@ -1,17 +1,17 @@
 -- Two machines as one.
 -- pair       the two
 -- pair_legs  its legs: those of the first, then those of the second
--- part_of    which part has a leg, and its number there, by the count of the first
+-- part_of    which part has a leg, and its number there, by the count of the first; none has a missing leg
 -- OnePart    an action on one leg is one on the part that has it, and the other part's value stays; nothing for a missing leg
 -- BothParts  an action on all legs is one on both parts
 -- pair_does  its own rule, by these two
-use Rattle.std.specs.Prelude.{◌≡◌, ℕ, ◌-◌, cond, List, ◌++◌, nat_lt}
+use Rattle.std.specs.Prelude.{◌≡◌, ℕ, ◌-◌, cond, List, ◌++◌, Some, None, Option, nat_lt}
 use Rattle.machine.specs.Actions.{Action, Driving, Halting, SwitchingOff, ReadingWord, Passing}
 use Rattle.machine.specs.Legs.{Leg}
 use Rattle.machine.specs.LegNumbers.{count_of, known_legs}
 use Rattle.layers.specs.declared.pair.Pair.{Pair}
 use Rattle.layers.specs.declared.pair.Part.{Part}
-use Rattle.layers.specs.declared.pair.Part.TheVariants.{First, Second, Missing}
+use Rattle.layers.specs.declared.pair.Part.TheVariants.{First, Second}
 
 abbrev pub pair : {M N : Type 0} → M → N → Pair M N
 pair m n = record { first = m; second = n }
@@ -19,13 +19,13 @@ pair m n = record { first = m; second = n }
 abbrev pub pair_legs : {M N : Type 0} → (M → List Leg) → (N → List Leg) → Pair M N → List Leg
 pair_legs meaning₁ meaning₂ x = meaning₁ x.first ++ meaning₂ x.second
 
-abbrev pub part_of : ℕ → ℕ → Part
-part_of first k = cond (nat_lt k known_legs) (cond (nat_lt k first) (First k) (Second (k - first))) Missing
+abbrev pub part_of : ℕ → ℕ → Option Part
+part_of first k = cond (nat_lt k known_legs) (Some (cond (nat_lt k first) (First k) (Second (k - first)))) None
 
-abbrev pub OnePart : {M N : Type 0} → (M → Action → M → Type 0) → (N → Action → N → Type 0) → Part → (ℕ → Action) → Pair M N → Pair M N → Type 0
-OnePart does₁ does₂ (First k) act x y = does₁ x.first (act k) y.first × (y.second ≡ x.second)
-OnePart does₁ does₂ (Second k) act x y = does₂ x.second (act k) y.second × (y.first ≡ x.first)
-OnePart does₁ does₂ Missing act x y = y ≡ x
+abbrev pub OnePart : {M N : Type 0} → (M → Action → M → Type 0) → (N → Action → N → Type 0) → Option Part → (ℕ → Action) → Pair M N → Pair M N → Type 0
+OnePart does₁ does₂ (Some (First k)) act x y = does₁ x.first (act k) y.first × (y.second ≡ x.second)
+OnePart does₁ does₂ (Some (Second k)) act x y = does₂ x.second (act k) y.second × (y.first ≡ x.first)
+OnePart does₁ does₂ None act x y = y ≡ x
 
 abbrev pub BothParts : {M N : Type 0} → (M → Action → M → Type 0) → (N → Action → N → Type 0) → Action → Pair M N → Pair M N → Type 0
 BothParts does₁ does₂ a x y = does₁ x.first a y.first × does₂ x.second a y.second

@@ -3,7 +3,7 @@ ghost use Rattle.std.specs.Prelude.{◌≡◌};
 ghost use Rattle.layers.specs.Crossed.{crossed, crossed_does, crossed_legs};
 ghost use Rattle.layers.specs.Mirrors.{crossed_laws};
 
-use legs::{Drive, End, Position, ReadRefusal};
+use legs::{Drive, End, Position, ReadRefusal, Sided};
 use machine::Machine;
 
 #[derive(Drop)]
@@ -46,14 +46,17 @@ impl<M: Machine> Machine for Crossed<M> {
         self.below.driven(leg).opposite()
     }
 
+    #[tactic(auto, using(crate::specs::Mirrors::drive_to_mirrored))]
     fn drive(&mut self, end: End) {
         self.below.drive(end.opposite());
     }
 
+    #[tactic(auto, using(crate::specs::Mirrors::halted_mirrored))]
     fn halt(&mut self) {
         self.below.halt();
     }
 
+    #[tactic(auto, using(crate::specs::Mirrors::off_at_mirrored))]
     fn switch_off(&mut self, leg: u16) {
         self.below.switch_off(leg);
     }
@@ -63,6 +66,7 @@ impl<M: Machine> Machine for Crossed<M> {
         self.below.read(leg, word)
     }
 
+    #[tactic(auto, using(crate::specs::Mirrors::frame_mirrored))]
     fn pass(&mut self) {
         self.below.pass();
     }

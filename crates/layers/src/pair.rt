@@ -2,6 +2,7 @@
 ghost use Rattle.std.specs.Prelude.{◌≡◌};
 ghost use Rattle.layers.specs.Pair.{pair, pair_does, pair_legs, part_of};
 ghost use Rattle.layers.specs.Parts.{pair_laws};
+ghost use Rattle.machine.specs.LegNumbers.{count_of};
 
 use legs::{Drive, End, Position, ReadRefusal};
 use machine::{KNOWN_LEGS, MOST_COUNTED, Machine};
@@ -33,19 +34,21 @@ impl<A, B> Pair<A, B> {
 pub enum Part {
     First(u16),
     Second(u16),
-    Missing,
 }
 
-// The part that has a leg, where the first part counts so many.
-fn part_of(first_count: u16, leg: u16) -> Part
-    ensures { result ≡ part_of first_count leg }
-{
-    if leg >= KNOWN_LEGS {
-        Part::Missing
-    } else if leg < first_count {
-        Part::First(leg)
-    } else {
-        Part::Second(leg - first_count)
+impl<A: Machine, B> Pair<A, B> {
+    // The part that has a leg; none has a missing leg.
+    fn part(&self, leg: u16) -> Option<Part>
+        ensures { result ≡ part_of (count_of (A.meaning self.now.first)) leg }
+    {
+        let first_count = self.first.count();
+        if leg >= KNOWN_LEGS {
+            None
+        } else if leg < first_count {
+            Some(Part::First(leg))
+        } else {
+            Some(Part::Second(leg - first_count))
+        }
     }
 }
 
@@ -60,19 +63,21 @@ impl<A: Machine, B: Machine> Machine for Pair<A, B> {
         (self.first.count() + self.second.count()).min(MOST_COUNTED)
     }
 
+    #[tactic(auto, using(crate::specs::Parts::leg_by_part))]
     fn show(&self, leg: u16) -> Position {
-        match part_of(self.first.count(), leg) {
-            Part::First(leg) => self.first.show(leg),
-            Part::Second(leg) => self.second.show(leg),
-            Part::Missing => Position::NoEndPosition,
+        match self.part(leg) {
+            Some(Part::First(leg)) => self.first.show(leg),
+            Some(Part::Second(leg)) => self.second.show(leg),
+            None => Position::NoEndPosition,
         }
     }
 
+    #[tactic(auto, using(crate::specs::Parts::leg_by_part))]
     fn driven(&self, leg: u16) -> Drive {
-        match part_of(self.first.count(), leg) {
-            Part::First(leg) => self.first.driven(leg),
-            Part::Second(leg) => self.second.driven(leg),
-            Part::Missing => Drive::Off,
+        match self.part(leg) {
+            Some(Part::First(leg)) => self.first.driven(leg),
+            Some(Part::Second(leg)) => self.second.driven(leg),
+            None => Drive::Off,
         }
     }
 
@@ -86,19 +91,20 @@ impl<A: Machine, B: Machine> Machine for Pair<A, B> {
         self.second.halt();
     }
 
+    #[tactic(auto, using(crate::specs::Parts::change_by_part))]
     fn switch_off(&mut self, leg: u16) {
-        match part_of(self.first.count(), leg) {
-            Part::First(leg) => self.first.switch_off(leg),
-            Part::Second(leg) => self.second.switch_off(leg),
-            Part::Missing => {}
+        match self.part(leg) {
+            Some(Part::First(leg)) => self.first.switch_off(leg),
+            Some(Part::Second(leg)) => self.second.switch_off(leg),
+            None => {}
         }
     }
 
+    #[tactic(auto, using(crate::specs::Parts::leg_by_part))]
     fn read(&mut self, leg: u16, word: u16) -> Result<(), ReadRefusal> {
-        match part_of(self.first.count(), leg) {
+        match self.part(leg).ok_or(ReadRefusal::MissingLeg)? {
             Part::First(leg) => self.first.read(leg, word),
             Part::Second(leg) => self.second.read(leg, word),
-            Part::Missing => Err(ReadRefusal::MissingLeg),
         }
     }
 

@@ -1,6 +1,0 @@
-use Rattle.std.proofs.Common.{rules}
-use Rattle.std.proofs.lemmas.List.{map-append}
-use Rattle.layers.proofs.pair.PairMachine.pass.Goals as goal
-
-pub returns : goal.returns
-returns g c = search (rules, map-append)
