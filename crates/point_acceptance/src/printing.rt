@@ -1,9 +1,13 @@
 // Lines for people to read.
 use crate::planned::is_as_planned;
-use crate::words::{call_words, message_words, verdict_words};
+use crate::words::Words;
 use point_rig::Ending;
-use records::{Entry, LegStatus, Message, Snapshot, Verdict};
+use records::{Entry, Message, Snapshot, Verdict};
+use std::fmt::InlineText;
 use std::io;
+
+// The longest words for a call have 35 letters.
+const ROOM: usize = 40;
 
 pub fn print_heading(rt: &impl Print) -> io::Result<()> {
     println!(rt; "Factory test of a point with five motors")?;
@@ -13,52 +17,37 @@ pub fn print_heading(rt: &impl Print) -> io::Result<()> {
     println!(rt; "call                                 leg 0 to leg 4           all")
 }
 
-fn print_leg(rt: &impl Print, leg: LegStatus) -> io::Result<()> {
-    print!(rt; "  {}/{}", leg.shows.letter(), leg.driven.letter())
-}
-
-fn print_leg_if(rt: &impl Print, leg: Option<LegStatus>) -> io::Result<()> {
-    match leg {
-        Some(leg) => print_leg(rt, leg),
-        None => print!(rt; "     "),
-    }
-}
-
 // What every leg shows and how it is driven, and what they show together.
 fn print_legs(rt: &impl Print, legs: Snapshot) -> io::Result<()> {
-    print_leg(rt, legs.leg0)?;
-    print_leg_if(rt, legs.leg1)?;
-    print_leg_if(rt, legs.leg2)?;
-    print_leg_if(rt, legs.leg3)?;
-    print_leg_if(rt, legs.leg4)?;
-    print!(rt; "  {}", legs.combined_position().letter())
+    for leg in legs.legs() {
+        match leg {
+            Some(leg) => print!(rt; "  {}/{}", leg.shows, leg.driven)?,
+            None => print!(rt; "     ")?,
+        }
+    }
+    print!(rt; "  {}", legs.combined_position())
 }
 
 fn print_verdict(rt: &impl Print, verdict: Verdict) -> io::Result<()> {
     match verdict {
         Verdict::Plain => Ok(()),
-        Verdict::Refused(refusal) => print!(rt; "  refused, {}", refusal.number()),
-        _ => print!(rt; "  {}", verdict_words(verdict)),
+        _ => print!(rt; "  {}", Words(verdict)),
     }
 }
 
 fn print_messages(rt: &impl Print, first: Message, second: Message) -> io::Result<()> {
     match (first, second) {
         (Message::Nothing, _) => Ok(()),
-        (_, Message::Nothing) => print!(rt; "  told: {}", message_words(first)),
-        _ => print!(rt;
-            "  told: {}, {}",
-            message_words(first),
-            message_words(second)
-        ),
+        (_, Message::Nothing) => print!(rt; "  told: {}", Words(first)),
+        _ => print!(rt; "  told: {}, {}", Words(first), Words(second)),
     }
 }
 
 // One call: its number, the call, the legs after it, and what came of it.
-pub fn print_entry(rt: &(impl Print + AllocGlobal), number: usize, entry: Entry) -> io::Result<()> {
-    let call = call_words(rt.alloc(), entry.call)?;
+pub fn print_entry(rt: &impl Print, number: usize, entry: Entry) -> io::Result<()> {
+    let call = InlineText::<ROOM>::of(Words(entry.call));
     let (verdict, first, second) = entry.answer;
-    print!(rt; "{number:>4}  {call:<29}")?;
+    print!(rt; "{number:>4}  {:<29}", call.as_str())?;
     print_legs(rt, entry.legs)?;
     print_verdict(rt, verdict)?;
     print_messages(rt, first, second)?;
@@ -66,7 +55,7 @@ pub fn print_entry(rt: &(impl Print + AllocGlobal), number: usize, entry: Entry)
 }
 
 pub fn print_ending(rt: &impl Print, number: usize, ending: Ending) -> io::Result<()> {
-    let how = verdict_words(ending.verdict);
+    let how = Words(ending.verdict);
     println!(rt; "Movement {number}: {how} on tick {} of 120", ending.ticks)
 }
 

@@ -1,10 +1,9 @@
--- One more call, one more stretch of calls, one more ending.
+-- One more stretch of calls, one more ending.
 use Rattle.std.proofs.Common.{◌≡◌, ℕ, zero, suc, ◌+◌, ◌<◌, ◌≤◌, true, false, cond, List, [], ◌∷◌, ◌++◌, length, get_or, drop, replicate, sym, refl, ap, ◌∙◌, ap₂, append_assoc, append-nil, add-one, arith}
 use Rattle.std.proofs.lemmas.List.{drop_more}
 use Rattle.std.proofs.lemmas.Bool.{cond_both}
-use Rattle.point_rig.specs.Calling.{all_calls, stretch_calls}
+use Rattle.point_rig.specs.Calling.{Stretch, all_calls, stretch_calls}
 use Rattle.point_rig.specs.Ending.{ended, endings_from}
-use Rattle.point_rig.specs.declared.calling.Stretch.{Stretch}
 use Rattle.point_rig.specs.declared.ending.Ending.{Ending}
 use Rattle.histories.specs.History.{verdict_in}
 use Rattle.histories.specs.OneEntry.{closes, ticks_by}
@@ -15,14 +14,6 @@ use Rattle.records.specs.declared.call.CallKind.{CallKind}
 use Rattle.records.specs.declared.call.CallKind.TheVariants.{Tick}
 use Rattle.records.specs.declared.entry.Entry.{Entry}
 use Rattle.records.specs.declared.verdict.Verdict.{Verdict}
-
-replicate_push : {X : Type 0} (n : ℕ) (x : X) → replicate (suc n) x ≡ replicate n x ++ (x ∷ [])
-replicate_push zero x = refl
-replicate_push (suc n) x = ap (λ xs. x ∷ xs) (replicate_push n x)
-
-pub one_more_call : (before items after : List Call) (n : ℕ) (x call : Call) → items ≡ before ++ replicate n x → call ≡ x → after ≡ items ++ (call ∷ []) → after ≡ before ++ replicate (n + 1) x
-one_more_call before items after n x call so_far same grown =
-    grown ∙ ap₂ (λ l c. l ++ (c ∷ [])) so_far same ∙ append_assoc before (replicate n x) (x ∷ []) ∙ ap (λ l. before ++ l) (sym (replicate_push n x)) ∙ ap (λ k. before ++ replicate k x) (sym (add-one n))
 
 pub one_more_stretch : (all items after : List Call) (plan : List Stretch) (i : ℕ) (d : Stretch) → i < length plan → all ≡ items ++ all_calls (drop i plan) → after ≡ items ++ stretch_calls (get_or plan i d) → all ≡ after ++ all_calls (drop (i + 1) plan)
 one_more_stretch all items after plan i d within so_far grown =

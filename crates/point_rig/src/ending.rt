@@ -16,10 +16,7 @@ pub struct Ending {
 fn is_over(verdict: Verdict) -> bool
     ensures { result ≡ closes verdict }
 {
-    match verdict {
-        Verdict::Arrived | Verdict::TimedOut => true,
-        _ => false,
-    }
+    matches!(verdict, Verdict::Arrived | Verdict::TimedOut)
 }
 
 // The ticks of a movement after a call, if there were so many before it.

@@ -7,4 +7,4 @@ mod rigging;
 
 pub use calling::test_calls;
 pub use ending::{Ending, endings};
-pub use rigging::{Rig, five_motors};
+pub use rigging::five_motors;

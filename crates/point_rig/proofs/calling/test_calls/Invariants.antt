@@ -3,5 +3,5 @@ use Rattle.point_rig.specs.Calling.{all_calls, test_list, test_plan}
 use Rattle.point_rig.proofs.calling.test_calls.Given as goal
 
 -- the calls so far, and those to come
-abbrev pub invariant-loop-stretch : goal.invariant-loop-stretch
-invariant-loop-stretch l = test_list ≡ vec_items l.calls ++ all_calls (drop l.stretch-index test_plan)
+abbrev pub invariant-loop-kind : goal.invariant-loop-kind
+invariant-loop-kind l = test_list ≡ vec_items l.calls ++ all_calls (drop l.kind-index test_plan)
