@@ -36,7 +36,7 @@ fn crossed_twice_is_as_mounted(rt: HostRuntime) {
     }
     for end in [End::Left, End::Right] {
         twice.drive(end);
-        assert_eq!(rt; twice.driven(0), end.drive());
+        assert_eq!(rt; twice.driven(0), Drive::from(end));
     }
     twice.halt();
     assert_eq!(rt; twice.driven(0), Drive::Off);
