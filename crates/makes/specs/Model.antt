@@ -33,10 +33,10 @@ abbrev pub new_model : ℕ → Model
 new_model d = record { travel = in_range 1 600 d; place = 0; drive = Off }
 
 abbrev pub model_driving : Drive → Model → Model
-model_driving d x = record { travel = x.travel; place = x.place; drive = d }
+model_driving d x = record x { drive = d }
 
 abbrev pub model_reading : ℕ → Model → Model
-model_reading w x = record { travel = x.travel; place = cond (nat_le w x.travel) w x.place; drive = x.drive }
+model_reading w x = record x { place = cond (nat_le w x.travel) w x.place }
 
 abbrev pub model_passing : Model → Model
-model_passing x = record { travel = x.travel; place = place_after x.drive x.place x.travel; drive = x.drive }
+model_passing x = record x { place = place_after x.drive x.place x.travel }
