@@ -35,11 +35,11 @@ pub fn print_command(rt: &impl Print, end: End) -> io::Result<()> {
 // What every leg shows and how it is driven, and what they show together.
 fn print_legs<M: Machine>(rt: &impl Print, machine: &M) -> io::Result<()> {
     for leg in 0..KNOWN_LEGS {
-        let shown = machine.show(leg).letter();
-        let driven = machine.driven(leg).letter();
+        let shown = machine.show(leg);
+        let driven = machine.driven(leg);
         print!(rt; "  {shown}/{driven}  ")?;
     }
-    print!(rt; "  {}", combined_position(machine).letter())
+    print!(rt; "  {}", combined_position(machine))
 }
 
 pub fn print_state<M: Machine>(rt: &impl Print, when: &str, machine: &M) -> io::Result<()> {

@@ -4,7 +4,7 @@ ghost use Rattle.std.specs.Prelude.{IfOk};
 
 use crate::printing::{print_arrival, print_command, print_state, print_tick, print_timeout};
 use factory::switch_off_arrived;
-use legs::End;
+use legs::{End, Position};
 use machine::{Machine, combined_position};
 use std::io;
 
@@ -24,7 +24,7 @@ pub fn move_for<M: Machine>(
         machine.pass();
         let arrived = switch_off_arrived(machine);
         print_tick(rt, tick, machine, &arrived)?;
-        if combined_position(machine) == end.position() {
+        if combined_position(machine) == Position::from(end) {
             return Ok(Some(tick));
         }
     }

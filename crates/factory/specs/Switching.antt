@@ -4,7 +4,7 @@
 -- off_below       so for each leg with a lower number, leg 0 first
 -- arrivals        which of legs 0 to 4 have arrived, each after those with a lower number
 -- AllOff          legs 0 to 4 are off
-use Rattle.std.specs.Prelude.{◌≡◌, ℕ, zero, suc, ◌<◌, Bool, cond, List, map}
+use Rattle.std.specs.Prelude.{◌≡◌, ℕ, zero, suc, ◌<◌, Bool, List, map, if◌then◌else◌}
 use Rattle.std.specs.List.{range_with_len}
 use Rattle.legs.specs.declared.drive.Drive.TheVariants.{Off}
 use Rattle.legs.specs.Ends.{reached}
@@ -16,7 +16,7 @@ abbrev pub arrived_at : List Leg → ℕ → Bool
 arrived_at m k = reached (driven_at m k) (shown_at m k)
 
 abbrev pub off_if_arrived : ℕ → List Leg → List Leg
-off_if_arrived k m = cond (arrived_at m k) (off_at k m) m
+off_if_arrived k m = if arrived_at m k then off_at k m else m
 
 abbrev pub off_below : ℕ → List Leg → List Leg
 off_below zero m = m

@@ -5,7 +5,7 @@
 -- OnePart    an action on one leg is one on the part that has it, and the other part's value stays; nothing for a missing leg
 -- BothParts  an action on all legs is one on both parts
 -- pair_does  its own rule, by these two
-use Rattle.std.specs.Prelude.{◌≡◌, ℕ, ◌-◌, cond, List, ◌++◌, Some, None, Option, nat_lt}
+use Rattle.std.specs.Prelude.{◌≡◌, ℕ, ◌-◌, List, ◌++◌, Some, None, Option, nat_lt, if◌then◌else◌}
 use Rattle.machine.specs.Actions.{Action, Driving, Halting, SwitchingOff, ReadingWord, Passing}
 use Rattle.machine.specs.Legs.{Leg}
 use Rattle.machine.specs.LegNumbers.{count_of, known_legs}
@@ -20,7 +20,7 @@ abbrev pub pair_legs : {M N : Type 0} → (M → List Leg) → (N → List Leg) 
 pair_legs meaning₁ meaning₂ x = meaning₁ x.first ++ meaning₂ x.second
 
 abbrev pub part_of : ℕ → ℕ → Option Part
-part_of first k = cond (nat_lt k known_legs) (Some (cond (nat_lt k first) (First k) (Second (k - first)))) None
+part_of first k = if nat_lt k known_legs then Some (if nat_lt k first then First k else Second (k - first)) else None
 
 abbrev pub OnePart : {M N : Type 0} → (M → Action → M → Type 0) → (N → Action → N → Type 0) → Option Part → (ℕ → Action) → Pair M N → Pair M N → Type 0
 OnePart does₁ does₂ (Some (First k)) act x y = does₁ x.first (act k) y.first × (y.second ≡ x.second)

@@ -10,7 +10,7 @@
 -- shown_at, driven_at, read_answer   these three of the leg with a number
 -- at_index     a list with this done to the element of this number
 -- at_leg       the legs with this done to the leg of this number; nothing for a missing leg
-use Rattle.std.specs.Prelude.{ℕ, zero, suc, min, cond, List, [], ◌∷◌, length, take, Some, None, Ok, Err, Option, Result, nat_lt}
+use Rattle.std.specs.Prelude.{ℕ, zero, suc, min, List, [], ◌∷◌, length, take, Some, None, Ok, Err, Option, Result, nat_lt, if◌then◌else◌}
 use Rattle.std.specs.List.{slice_get}
 use Rattle.legs.specs.declared.position.Position.{Position}
 use Rattle.legs.specs.declared.position.Position.TheVariants.{NoEndPosition}
@@ -33,7 +33,7 @@ abbrev pub count_of : List Leg → ℕ
 count_of m = min most_counted (length m)
 
 abbrev pub leg_at : List Leg → ℕ → Option Leg
-leg_at m k = cond (nat_lt k known_legs) (slice_get m k) None
+leg_at m k = if nat_lt k known_legs then slice_get m k else None
 
 abbrev pub shown_of : Option Leg → Position
 shown_of None = NoEndPosition
@@ -45,7 +45,7 @@ driven_of (Some l) = l.driven
 
 abbrev pub answer_of : Option Leg → ℕ → Result Unit ReadRefusal
 answer_of None w = Err MissingLeg
-answer_of (Some l) w = cond (l.reads w) (Ok tt) (Err UnreadableWord)
+answer_of (Some l) w = if l.reads w then Ok tt else Err UnreadableWord
 
 abbrev pub shown_at : List Leg → ℕ → Position
 shown_at m k = shown_of (leg_at m k)
@@ -62,4 +62,4 @@ at_index f zero (x ∷ xs) = f x ∷ xs
 at_index f (suc k) (x ∷ xs) = x ∷ at_index f k xs
 
 abbrev pub at_leg : (Leg → Leg) → ℕ → List Leg → List Leg
-at_leg f k m = cond (nat_lt k known_legs) (at_index f k m) m
+at_leg f k m = if nat_lt k known_legs then at_index f k m else m

@@ -22,10 +22,10 @@ abbrev pub leg_of : Position → Drive → (ℕ → Bool) → Leg
 leg_of p d r = record { shows = p; driven = d; reads = r }
 
 abbrev pub with_position : Position → Leg → Leg
-with_position p l = record { shows = p; driven = l.driven; reads = l.reads }
+with_position p l = record l { shows = p }
 
 abbrev pub with_drive : Drive → Leg → Leg
-with_drive d l = record { shows = l.shows; driven = d; reads = l.reads }
+with_drive d l = record l { driven = d }
 
 abbrev pub frame : Leg → Leg
 frame l = with_position NoEndPosition l

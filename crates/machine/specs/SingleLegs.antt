@@ -3,7 +3,7 @@
 -- single_legs   its legs: the one
 -- single_after  its value after each action; leg 0 is the only one there is
 -- single_does   its own rule: that value, and no other
-use Rattle.std.specs.Prelude.{◌≡◌, ℕ, cond, List, [], ◌∷◌, ◌==◌}
+use Rattle.std.specs.Prelude.{◌≡◌, ℕ, List, [], ◌∷◌, ◌==◌, if◌then◌else◌}
 use Rattle.legs.specs.declared.drive.Drive.{Drive}
 use Rattle.legs.specs.declared.drive.Drive.TheVariants.{Off}
 use Rattle.machine.specs.Actions.{Action, Driving, Halting, SwitchingOff, ReadingWord, Passing}
@@ -21,8 +21,8 @@ single_legs leg x = leg x ∷ []
 abbrev pub single_after : {M : Type 0} → (Drive → M → M) → (ℕ → M → M) → (M → M) → Action → M → M
 single_after driving reading passing (Driving e) x = driving (drive_towards e) x
 single_after driving reading passing Halting x = driving Off x
-single_after driving reading passing (SwitchingOff k) x = cond (k == 0) (driving Off x) x
-single_after driving reading passing (ReadingWord k w) x = cond (k == 0) (reading w x) x
+single_after driving reading passing (SwitchingOff k) x = if k == 0 then driving Off x else x
+single_after driving reading passing (ReadingWord k w) x = if k == 0 then reading w x else x
 single_after driving reading passing Passing x = passing x
 
 abbrev pub single_does : {M : Type 0} → (Drive → M → M) → (ℕ → M → M) → (M → M) → M → Action → M → Type 0

@@ -31,12 +31,12 @@ fn crossed_twice_is_as_mounted(rt: HostRuntime) {
     let mut plain = Wired::new();
     let mut twice = Crossed::new(Crossed::new(Wired::new()));
     for word in 0..9 {
-        assert_eq!(rt; twice.read(0, word).is_ok(), plain.read(0, word).is_ok());
+        assert_eq!(rt; twice.read(0, word), plain.read(0, word));
         assert_eq!(rt; twice.show(0), plain.show(0));
     }
     for end in [End::Left, End::Right] {
         twice.drive(end);
-        assert_eq!(rt; twice.driven(0), end.drive());
+        assert_eq!(rt; twice.driven(0), Drive::from(end));
     }
     twice.halt();
     assert_eq!(rt; twice.driven(0), Drive::Off);

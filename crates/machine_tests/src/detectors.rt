@@ -1,12 +1,29 @@
 // What the words of a detector show, and which words and legs are refused.
+ghost use Rattle.std.specs.Prelude.{◌≡◌};
+ghost use Rattle.makes.specs.Coded.{new_coded};
+ghost use Rattle.makes.specs.Wired.{new_wired};
+
 use crate::checks::{misses, refuses, shows};
 use legs::{Drive, Position, ReadRefusal};
 use machine::Machine;
 use makes::{Coded, Wired};
 
+// The one constructor of all detectors, at each of the two.
+fn new_wired() -> Wired
+    ensures { result ≡ new_wired }
+{
+    Wired::new()
+}
+
+fn new_coded() -> Coded
+    ensures { result ≡ new_coded }
+{
+    Coded::new()
+}
+
 #[test]
 fn wired_words(rt: HostRuntime) {
-    let mut wired = Wired::new();
+    let mut wired = new_wired();
     assert_eq!(rt; wired.show(0), Position::NoEndPosition);
     shows(&rt, &mut wired, 0, 1, Position::Left);
     refuses(&rt, &mut wired, 0, 3);
@@ -22,7 +39,7 @@ fn wired_words(rt: HostRuntime) {
 
 #[test]
 fn coded_words(rt: HostRuntime) {
-    let mut coded = Coded::new();
+    let mut coded = new_coded();
     assert_eq!(rt; coded.show(0), Position::NoEndPosition);
     let table = [
         (510, Position::Left),
@@ -42,13 +59,13 @@ fn coded_words(rt: HostRuntime) {
 
 #[test]
 fn detectors_stay_where_they_are(rt: HostRuntime) {
-    let mut wired = Wired::new();
+    let mut wired = new_wired();
     shows(&rt, &mut wired, 0, 1, Position::Left);
     wired.drive(legs::End::Right);
     wired.pass();
     assert_eq!(rt; wired.show(0), Position::Left);
     assert_eq!(rt; wired.driven(0), Drive::Right);
-    let mut coded = Coded::new();
+    let mut coded = new_coded();
     shows(&rt, &mut coded, 0, 765, Position::Right);
     coded.drive(legs::End::Left);
     coded.pass();
@@ -58,7 +75,7 @@ fn detectors_stay_where_they_are(rt: HostRuntime) {
 
 #[test]
 fn missing_legs(rt: HostRuntime) {
-    let mut wired = Wired::new();
+    let mut wired = new_wired();
     wired.drive(legs::End::Left);
     for leg in [1, 4, 5, 256, 65535] {
         misses(&rt, &mut wired, leg, 1);

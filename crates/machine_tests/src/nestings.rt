@@ -1,4 +1,8 @@
 // Pairs of one to seven legs in both nestings.
+ghost use Rattle.std.specs.Prelude.{◌≡◌};
+ghost use Rattle.layers.specs.Pair.{pair};
+ghost use Rattle.makes.specs.Wired.{new_wired};
+
 use crate::checks::{misses, shows};
 use layers::Pair;
 use legs::{Drive, End, Position};
@@ -12,7 +16,9 @@ type LeftFour = Pair<Pair<Two, Wired>, Wired>;
 
 type RightFour = Pair<Wired, Pair<Wired, Two>>;
 
-fn two() -> Two {
+fn two() -> Two
+    ensures { result ≡ pair new_wired new_wired }
+{
     Pair::new(Wired::new(), Wired::new())
 }
 

@@ -1,7 +1,7 @@
 // A throw by the interface alone.
 ghost use Rattle.factory.specs.Throwing.{Moved};
 
-use legs::End;
+use legs::{End, Position};
 use machine::{Machine, combined_position};
 
 // Drives all legs to an end, and answers on which tick they are all there, if they are after so many.
@@ -11,7 +11,7 @@ pub fn ticks_to<M: Machine>(machine: &mut M, end: End, limit: u16) -> Option<u16
     machine.drive(end);
     for tick in 1..=limit {
         machine.pass();
-        if combined_position(machine) == end.position() {
+        if combined_position(machine) == Position::from(end) {
             return Some(tick);
         }
     }

@@ -4,7 +4,7 @@
 -- decode_from   what a word shows, if it carries one of these codes, the first of which has this number
 -- decode_coded  what a word shows, or nothing where it is unreadable
 -- new_coded     how it starts
-use Rattle.std.specs.Prelude.{ℕ, ◌+◌, ◌-◌, ◌*◌, cond, List, [], ◌∷◌, Some, None, Option, ◌==◌}
+use Rattle.std.specs.Prelude.{ℕ, ◌+◌, ◌-◌, ◌*◌, List, [], ◌∷◌, Some, None, Option, ◌==◌, if◌then◌else◌}
 use Rattle.legs.specs.declared.position.Position.{Position}
 use Rattle.legs.specs.declared.position.Position.TheVariants.{Left, Right, NoEndPosition, Trailed}
 use Rattle.makes.specs.declared.coded.CodedWords.{CodedWords}
@@ -19,7 +19,7 @@ code_table = NoEndPosition ∷ (Left ∷ (Right ∷ (Trailed ∷ [])))
 
 abbrev pub decode_from : ℕ → List Position → ℕ → Option Position
 decode_from c [] w = None
-decode_from c (p ∷ ps) w = cond (w == code_word c) (Some p) (decode_from (c + 1) ps w)
+decode_from c (p ∷ ps) w = if w == code_word c then Some p else decode_from (c + 1) ps w
 
 abbrev pub decode_coded : ℕ → Option Position
 decode_coded w = decode_from 0 code_table w

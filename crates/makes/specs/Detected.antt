@@ -20,10 +20,10 @@ abbrev pub new_detected : {D : Type 0} → D → Detected D
 new_detected d = record { decoder = d; position = NoEndPosition; drive = Off }
 
 abbrev pub detected_driving : {D : Type 0} → Drive → Detected D → Detected D
-detected_driving d x = record { decoder = x.decoder; position = x.position; drive = d }
+detected_driving d x = record x { drive = d }
 
 abbrev pub detected_reading : {D : Type 0} → (ℕ → Option Position) → ℕ → Detected D → Detected D
-detected_reading decodes w x = record { decoder = x.decoder; position = unwrap_or (decodes w) x.position; drive = x.drive }
+detected_reading decodes w x = record x { position = unwrap_or (decodes w) x.position }
 
 abbrev pub detected_passing : {D : Type 0} → Detected D → Detected D
 detected_passing x = x
