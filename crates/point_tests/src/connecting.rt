@@ -49,8 +49,8 @@ const STEPS: &[Line] = &[
 ];
 
 #[test]
-fn each_step_has_its_state(rt: HostRuntime) -> Result<(), Fail> {
-    plays(&rt, &mut Point::new(Wired::new()), STEPS)
+fn each_step_has_its_state(rt: HostRuntime) {
+    plays(&rt, &mut Point::new(Wired::new()), STEPS);
 }
 
 // EULYNX: Report status. At an end, trailed, and at no end position. What changes between the report and its end is
@@ -90,9 +90,9 @@ const REPORT_IN_PROFILE_0: &[Line] = &[
 ];
 
 #[test]
-fn report_status(rt: HostRuntime) -> Result<(), Fail> {
-    plays(&rt, &mut Point::new(Wired::new()), REPORT_STATUS)?;
-    plays(&rt, &mut Point::new(Wired::new()), REPORT_IN_PROFILE_0)
+fn report_status(rt: HostRuntime) {
+    plays(&rt, &mut Point::new(Wired::new()), REPORT_STATUS);
+    plays(&rt, &mut Point::new(Wired::new()), REPORT_IN_PROFILE_0);
 }
 
 const LOST_AND_MOVED: &[Line] = &[
@@ -104,9 +104,9 @@ const LOST_AND_MOVED: &[Line] = &[
 #[test]
 fn what_was_told_is_kept_over_a_loss(rt: HostRuntime) -> Result<(), Fail> {
     let mut point = point_up(&rt, wired_at(1)?, 3, 1);
-    plays(&rt, &mut point, LOST_AND_MOVED)?;
+    plays(&rt, &mut point, LOST_AND_MOVED);
     assert_eq!(rt; point.state().told, Some(Position::Left));
-    plays(&rt, &mut point, &[(ReportStatus, 0, 0, "R - - SI PR")])?;
+    plays(&rt, &mut point, &[(ReportStatus, 0, 0, "R - - SI PR")]);
     assert_eq!(rt; point.state().told, Some(Position::Right));
     Ok(())
 }

@@ -6,7 +6,6 @@ use makes::{Model, Wired};
 use point::Point;
 use records::CallKind::*;
 use records::{Answer, Call};
-use std::test::Fail;
 
 const FIFTEEN: &[Line] = &[
     (StartService, 3, 1, "NL -- - - -"),
@@ -27,9 +26,9 @@ const FIFTEEN: &[Line] = &[
 ];
 
 #[test]
-fn fifteen_calls(rt: HostRuntime) -> Result<(), Fail> {
+fn fifteen_calls(rt: HostRuntime) {
     let mut point = Point::new(Pair::new(Wired::new(), Model::new(2)));
-    plays(&rt, &mut point, FIFTEEN)
+    plays(&rt, &mut point, FIFTEEN);
 }
 
 fn call_by_name<M: Machine>(point: &mut Point<M>, call: Call) -> Answer {

@@ -58,9 +58,10 @@ const THERE_WHILE_REPORTING: &[Line] = &[
 
 #[test]
 fn interrupted_connections(rt: HostRuntime) -> Result<(), Fail> {
-    plays_up(&rt, wired_at(1)?, 3, 1, DIRECTLY_AFTER_THE_ORDER)?;
-    plays_up(&rt, wired_at(1)?, 3, 1, ON_THE_WAY)?;
-    plays_up(&rt, wired_at(1)?, 3, 1, NOT_MOVING)?;
-    plays_up(&rt, wired_at(1)?, 3, 1, MADE_AGAIN)?;
-    plays_up(&rt, wired_at(1)?, 3, 1, THERE_WHILE_REPORTING)
+    plays_up(&rt, wired_at(1)?, 3, 1, DIRECTLY_AFTER_THE_ORDER);
+    plays_up(&rt, wired_at(1)?, 3, 1, ON_THE_WAY);
+    plays_up(&rt, wired_at(1)?, 3, 1, NOT_MOVING);
+    plays_up(&rt, wired_at(1)?, 3, 1, MADE_AGAIN);
+    plays_up(&rt, wired_at(1)?, 3, 1, THERE_WHILE_REPORTING);
+    Ok(())
 }

@@ -41,10 +41,11 @@ const TWO_LEGS: &[Line] = &[
 
 #[test]
 fn moving_of_the_point(rt: HostRuntime) -> Result<(), Fail> {
-    plays_up(&rt, wired_at(1)?, 3, 1, FROM_AN_END)?;
-    plays_up(&rt, wired_at(0)?, 3, 1, FROM_NO_END)?;
-    plays_up(&rt, wired_at(4)?, 3, 1, FROM_TRAILED)?;
-    plays_up(&rt, two_at_left()?, 3, 1, TWO_LEGS)
+    plays_up(&rt, wired_at(1)?, 3, 1, FROM_AN_END);
+    plays_up(&rt, wired_at(0)?, 3, 1, FROM_NO_END);
+    plays_up(&rt, wired_at(4)?, 3, 1, FROM_TRAILED);
+    plays_up(&rt, two_at_left()?, 3, 1, TWO_LEGS);
+    Ok(())
 }
 
 // EULYNX: Moving of the Point to the current End position. It is told though it is no news, and nothing moves.
@@ -81,10 +82,11 @@ const TO_NO_END: &[Line] = &[
 
 #[test]
 fn orders_that_move_nothing(rt: HostRuntime) -> Result<(), Fail> {
-    plays_up(&rt, wired_at(1)?, 3, 1, TO_THE_CURRENT_END)?;
-    plays_up(&rt, wired_at(1)?, 3, 1, REPEATED_ON_THE_WAY)?;
-    plays_up(&rt, wired_at(1)?, 3, 1, REPEATED_AT_ONCE)?;
-    plays_up(&rt, wired_at(1)?, 3, 1, TO_NO_END)
+    plays_up(&rt, wired_at(1)?, 3, 1, TO_THE_CURRENT_END);
+    plays_up(&rt, wired_at(1)?, 3, 1, REPEATED_ON_THE_WAY);
+    plays_up(&rt, wired_at(1)?, 3, 1, REPEATED_AT_ONCE);
+    plays_up(&rt, wired_at(1)?, 3, 1, TO_NO_END);
+    Ok(())
 }
 
 const IN_TIME: &[Line] = &[
@@ -105,7 +107,7 @@ const TOO_LATE: &[Line] = &[
 ];
 
 #[test]
-fn a_travel_of_three_ticks(rt: HostRuntime) -> Result<(), Fail> {
-    plays_up(&rt, Model::new(3), 3, 1, IN_TIME)?;
-    plays_up(&rt, Model::new(3), 2, 1, TOO_LATE)
+fn a_travel_of_three_ticks(rt: HostRuntime) {
+    plays_up(&rt, Model::new(3), 3, 1, IN_TIME);
+    plays_up(&rt, Model::new(3), 2, 1, TOO_LATE);
 }

@@ -3,7 +3,7 @@ use layers::Pair;
 use machine::Machine;
 use makes::Wired;
 use point::Point;
-use records::{Answer, Call, CallKind, LegStatus, Snapshot, Verdict};
+use records::{Answer, Call, CallKind, Snapshot, Verdict};
 use std::fmt;
 use std::fmt::InlineText;
 use std::process::Abort;
@@ -22,31 +22,17 @@ struct Seen {
     answer: Answer,
 }
 
-fn known_legs(legs: Snapshot) -> [Option<LegStatus>; 5] {
-    [Some(legs.leg0), legs.leg1, legs.leg2, legs.leg3, legs.leg4]
-}
-
 impl fmt::Display for Seen {
     fn fmt<W: fmt::Write>(&self, f: &mut fmt::Formatter<W>) -> fmt::Result {
-        for leg in known_legs(self.legs) {
-            if let Some(leg) = leg {
-                write!(f, "{}", leg.shows.letter())?;
-            }
+        for leg in self.legs.legs().into_iter().flatten() {
+            write!(f, "{}", leg.shows)?;
         }
         write!(f, " ")?;
-        for leg in known_legs(self.legs) {
-            if let Some(leg) = leg {
-                write!(f, "{}", leg.driven.letter())?;
-            }
+        for leg in self.legs.legs().into_iter().flatten() {
+            write!(f, "{}", leg.driven)?;
         }
         let (verdict, first, second) = self.answer;
-        write!(
-            f,
-            " {} {} {}",
-            verdict.letter(),
-            first.text(),
-            second.text()
-        )
+        write!(f, " {verdict} {first} {second}")
     }
 }
 
@@ -85,16 +71,11 @@ fn play<M: Machine>(
     }
 }
 
-pub fn plays<M: Machine>(
-    rt: &impl Abort,
-    point: &mut Point<M>,
-    lines: &[Line],
-) -> Result<(), Fail> {
+pub fn plays<M: Machine>(rt: &impl Abort, point: &mut Point<M>, lines: &[Line]) {
     for (number, (kind, a, b, expected)) in lines.iter().enumerate() {
         let call = Call::new(*kind, *a, *b);
         play(rt, number, point, call, expected);
     }
-    Ok(())
 }
 
 // A new point over a machine, in service and with its connection up.
@@ -120,8 +101,8 @@ pub fn plays_up<M: Machine + Drop>(
     limit: u16,
     profile: u16,
     lines: &[Line],
-) -> Result<(), Fail> {
-    plays(rt, &mut point_up(rt, machine, limit, profile), lines)
+) {
+    plays(rt, &mut point_up(rt, machine, limit, profile), lines);
 }
 
 // A wired leg that has read this word: 0, 1, 2 and 4 show N, L, R and T.

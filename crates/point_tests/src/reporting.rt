@@ -23,7 +23,8 @@ const REFUSED: &[Line] = &[
 
 #[test]
 fn refused_words_are_not_judged(rt: HostRuntime) -> Result<(), Fail> {
-    plays_up(&rt, wired_at(1)?, 3, 1, REFUSED)
+    plays_up(&rt, wired_at(1)?, 3, 1, REFUSED);
+    Ok(())
 }
 
 // EULYNX: Handle and report No end position.
@@ -67,9 +68,10 @@ const OF_TWO_LEGS: &[Line] = &[
 
 #[test]
 fn positions_are_reported(rt: HostRuntime) -> Result<(), Fail> {
-    plays_up(&rt, wired_at(1)?, 3, 1, NO_END_POSITION)?;
-    plays_up(&rt, wired_at(1)?, 3, 1, TRAILED_POSITION)?;
-    plays_up(&rt, wired_at(0)?, 3, 1, END_POSITION)?;
-    plays_up(&rt, wired_at(1)?, 3, 0, IN_PROFILE_0)?;
-    plays_up(&rt, two_at_left()?, 3, 1, OF_TWO_LEGS)
+    plays_up(&rt, wired_at(1)?, 3, 1, NO_END_POSITION);
+    plays_up(&rt, wired_at(1)?, 3, 1, TRAILED_POSITION);
+    plays_up(&rt, wired_at(0)?, 3, 1, END_POSITION);
+    plays_up(&rt, wired_at(1)?, 3, 0, IN_PROFILE_0);
+    plays_up(&rt, two_at_left()?, 3, 1, OF_TWO_LEGS);
+    Ok(())
 }

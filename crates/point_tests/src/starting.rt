@@ -6,7 +6,6 @@ use machine::Machine;
 use makes::{Model, Wired};
 use point::Point;
 use records::CallKind::*;
-use std::test::Fail;
 
 // Each is the first call of a new point: a limit in ticks, and a profile.
 const SETTINGS: &[Line] = &[
@@ -32,11 +31,11 @@ const STARTS: &[Line] = &[
 ];
 
 #[test]
-fn limits_and_profiles(rt: HostRuntime) -> Result<(), Fail> {
+fn limits_and_profiles(rt: HostRuntime) {
     for line in SETTINGS {
-        plays(&rt, &mut Point::new(Wired::new()), &[*line])?;
+        plays(&rt, &mut Point::new(Wired::new()), &[*line]);
     }
-    plays(&rt, &mut Point::new(Wired::new()), STARTS)
+    plays(&rt, &mut Point::new(Wired::new()), STARTS);
 }
 
 const FIVE: &[Line] = &[
@@ -65,16 +64,15 @@ fn five() -> Pair<Pair<Two, Two>, Wired> {
 }
 
 #[test]
-fn five_legs_and_six(rt: HostRuntime) -> Result<(), Fail> {
-    plays(&rt, &mut Point::new(five()), FIVE)?;
+fn five_legs_and_six(rt: HostRuntime) {
+    plays(&rt, &mut Point::new(five()), FIVE);
     let mut machine = Pair::new(five(), Model::new(3));
     machine.drive(End::Right);
     let mut six = Point::new(machine);
-    plays(&rt, &mut six, SIX)?;
+    plays(&rt, &mut six, SIX);
     let (_, sixth) = six.into_machine().into_parts();
     assert_eq!(rt; sixth.show(0), Position::Left);
     assert_eq!(rt; sixth.driven(0), Drive::Right);
-    Ok(())
 }
 
 // A model of travel 3 that is driven right already. No tick passes it, or it would leave its end.
@@ -97,8 +95,8 @@ const OUT_OF_SERVICE: &[Line] = &[
 ];
 
 #[test]
-fn out_of_service_only_a_start_is_taken(rt: HostRuntime) -> Result<(), Fail> {
+fn out_of_service_only_a_start_is_taken(rt: HostRuntime) {
     let mut model = Model::new(3);
     model.drive(End::Right);
-    plays(&rt, &mut Point::new(model), OUT_OF_SERVICE)
+    plays(&rt, &mut Point::new(model), OUT_OF_SERVICE);
 }

@@ -40,11 +40,12 @@ const CHANGED_THEN_IN_PROFILE_0: &[Line] = &[
 
 #[test]
 fn timeouts_are_told(rt: HostRuntime) -> Result<(), Fail> {
-    plays_up(&rt, wired_at(1)?, 1, 1, CHANGED_BEFORE)?;
-    plays_up(&rt, wired_at(1)?, 1, 1, UNCHANGED)?;
-    plays_up(&rt, Model::new(3), 1, 1, CHANGED_THEN)?;
-    plays_up(&rt, wired_at(1)?, 1, 0, UNCHANGED_IN_PROFILE_0)?;
-    plays_up(&rt, Model::new(3), 1, 0, CHANGED_THEN_IN_PROFILE_0)
+    plays_up(&rt, wired_at(1)?, 1, 1, CHANGED_BEFORE);
+    plays_up(&rt, wired_at(1)?, 1, 1, UNCHANGED);
+    plays_up(&rt, Model::new(3), 1, 1, CHANGED_THEN);
+    plays_up(&rt, wired_at(1)?, 1, 0, UNCHANGED_IN_PROFILE_0);
+    plays_up(&rt, Model::new(3), 1, 0, CHANGED_THEN_IN_PROFILE_0);
+    Ok(())
 }
 
 // Nor is it told once the connection is made again.
@@ -79,9 +80,9 @@ const WHILE_REPORTING: &[Line] = &[
 #[test]
 fn timeouts_without_connection_are_not_told(rt: HostRuntime) -> Result<(), Fail> {
     for profile in 0..2 {
-        plays_up(&rt, wired_at(1)?, 1, profile, UNCHANGED_WHILE_LOST)?;
-        plays_up(&rt, Model::new(3), 1, profile, CHANGED_WHILE_LOST)?;
-        plays_up(&rt, Model::new(3), 1, profile, WHILE_REPORTING)?;
+        plays_up(&rt, wired_at(1)?, 1, profile, UNCHANGED_WHILE_LOST);
+        plays_up(&rt, Model::new(3), 1, profile, CHANGED_WHILE_LOST);
+        plays_up(&rt, Model::new(3), 1, profile, WHILE_REPORTING);
     }
     Ok(())
 }
@@ -104,16 +105,18 @@ const NONE_OF_TWO: &[Line] = &[
 
 #[test]
 fn timeouts_with_two_legs(rt: HostRuntime) -> Result<(), Fail> {
-    plays_up(&rt, two_at_left()?, 2, 1, ONE_OF_TWO)?;
-    plays_up(&rt, two_at_left()?, 2, 1, NONE_OF_TWO)
+    plays_up(&rt, two_at_left()?, 2, 1, ONE_OF_TWO);
+    plays_up(&rt, two_at_left()?, 2, 1, NONE_OF_TWO);
+    Ok(())
 }
 
 #[test]
 fn the_longest_limit_is_600_ticks(rt: HostRuntime) -> Result<(), Fail> {
     let mut point = point_up(&rt, wired_at(1)?, 600, 1);
-    plays(&rt, &mut point, &[(MovePoint, 2, 0, "L R O - -")])?;
+    plays(&rt, &mut point, &[(MovePoint, 2, 0, "L R O - -")]);
     for _ in 1..600 {
-        plays(&rt, &mut point, &[(Tick, 0, 0, "L R - - -")])?;
+        plays(&rt, &mut point, &[(Tick, 0, 0, "L R - - -")]);
     }
-    plays(&rt, &mut point, &[(Tick, 0, 0, "L - X TO -")])
+    plays(&rt, &mut point, &[(Tick, 0, 0, "L - X TO -")]);
+    Ok(())
 }
