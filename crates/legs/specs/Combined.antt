@@ -4,7 +4,7 @@
 -- some_show      at least one of them is
 -- combined       an end if every leg shows it; trailed if some leg is; else no end position. Meant for at least one leg
 -- joined         the same of two positions
-use Rattle.std.specs.Prelude.{Bool, true, false, cond, ◌&&◌, ◌||◌, List, [], ◌∷◌, ◌==◌}
+use Rattle.std.specs.Prelude.{Bool, true, false, ◌&&◌, ◌||◌, List, [], ◌∷◌, ◌==◌, if◌then◌else◌}
 use Rattle.legs.specs.declared.position.Position.{Position}
 use Rattle.legs.specs.declared.position.Position.TheVariants.{Left, Right, NoEndPosition, Trailed}
 use Rattle.legs.specs.Letters.{position_letter}
@@ -22,7 +22,7 @@ some_show p (q ∷ qs) = same_position p q || some_show p qs
 
 abbrev pub combined : List Position → Position
 combined ps =
-    cond (all_show Left ps) Left (cond (all_show Right ps) Right (cond (some_show Trailed ps) Trailed NoEndPosition))
+    if all_show Left ps then Left else if all_show Right ps then Right else if some_show Trailed ps then Trailed else NoEndPosition
 
 abbrev pub joined : Position → Position → Position
 joined p q = combined (p ∷ (q ∷ []))

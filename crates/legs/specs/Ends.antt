@@ -5,7 +5,7 @@
 -- end_asked      the end that a number names, if it names one
 -- no_such_end    what is said of a number that names none
 -- reached        whether a leg is where it is driven: the two letters are the same
-use Rattle.std.specs.Prelude.{ℕ, Bool, cond, Some, None, Option, ◌==◌}
+use Rattle.std.specs.Prelude.{ℕ, Bool, Some, None, Option, ◌==◌, if◌then◌else◌}
 use Rattle.legs.specs.declared.position.Position.{Position}
 use Rattle.legs.specs.declared.position.Position.TheVariants as position
 use Rattle.legs.specs.declared.drive.Drive.{Drive}
@@ -28,7 +28,7 @@ end_number end.Left = 1
 end_number end.Right = 2
 
 abbrev pub end_asked : ℕ → Option End
-end_asked a = cond (a == end_number end.Left) (Some end.Left) (cond (a == end_number end.Right) (Some end.Right) None)
+end_asked a = if a == end_number end.Left then Some end.Left else if a == end_number end.Right then Some end.Right else None
 
 abbrev pub no_such_end : NoSuchEnd
 no_such_end = record {}

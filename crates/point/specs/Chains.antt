@@ -7,7 +7,7 @@
 -- off_actions      so for some legs in order, the first of which has this number
 -- command_actions  what is done to all legs
 -- actions_of       all that a decision commands: legs switched off, from leg 0 on, then what is done to all of them
-use Rattle.std.specs.Prelude.{◌≡◌, ℕ, suc, Bool, cond, List, [], ◌∷◌, ◌++◌, Some, None, Ok, Err, Option, Result}
+use Rattle.std.specs.Prelude.{◌≡◌, ℕ, suc, Bool, List, [], ◌∷◌, ◌++◌, Some, None, Ok, Err, Option, Result, if◌then◌else◌}
 use Rattle.legs.specs.declared.read_refusal.ReadRefusal.{ReadRefusal}
 use Rattle.machine.specs.Actions.{Action, Driving, Halting, SwitchingOff, ReadingWord, Passing}
 use Rattle.machine.specs.Legs.{Leg}
@@ -37,7 +37,7 @@ read_actions (Some Pass) r = Passing ∷ []
 read_actions (Some (Word k w)) r = word_actions k w r
 
 abbrev pub off_action : ℕ → Bool → List Action
-off_action k off = cond off (SwitchingOff k ∷ []) []
+off_action k off = if off then SwitchingOff k ∷ [] else []
 
 abbrev pub off_actions : ℕ → List Bool → List Action
 off_actions k [] = []

@@ -6,7 +6,7 @@
 -- checked      the answer to a check of the version
 -- finished     the end of the report: the position is told once more if it is news
 -- connect      a step, where the legs are at this position as it is reported
-use Rattle.std.specs.Prelude.{ℕ, cond, None, ◌==◌}
+use Rattle.std.specs.Prelude.{ℕ, None, ◌==◌, if◌then◌else◌}
 use Rattle.legs.specs.declared.position.Position.{Position}
 use Rattle.records.specs.declared.message.Message.{Message}
 use Rattle.records.specs.declared.message.Message.TheVariants.{Nothing, VersionMatches, VersionDiffers, StartInitialisation, InitialisationCompleted}
@@ -32,13 +32,13 @@ abbrev pub telling : State → Connection → Message → Position → Decision
 telling s c m p = answered (with_connection c (with_told p s)) (Plain, m, position_message p) None
 
 abbrev pub step_from : Connection → State → Decision → Decision
-step_from c s d = cond (same_connection s.connection c) d (refused WrongConnection s)
+step_from c s d = if same_connection s.connection c then d else refused WrongConnection s
 
 abbrev pub checked : State → ℕ → Decision
-checked s v = cond (v == version) (connected s Checked VersionMatches) (connected s Down VersionDiffers)
+checked s v = if v == version then connected s Checked VersionMatches else connected s Down VersionDiffers
 
 abbrev pub finished : State → Position → Decision
-finished s p = cond (news p s.told) (telling s Up InitialisationCompleted p) (connected s Up InitialisationCompleted)
+finished s p = if news p s.told then telling s Up InitialisationCompleted p else connected s Up InitialisationCompleted
 
 abbrev pub connect : State → Step → Position → Decision
 connect s (Check v) p = step_from Down s (checked s v)

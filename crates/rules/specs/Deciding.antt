@@ -8,7 +8,7 @@
 -- decide_out   out of service only the start is taken
 -- decide_by    the decision on a call, by whether there is a service
 -- decide       the same of a state
-use Rattle.std.specs.Prelude.{true, false, cond, Some, None, Ok, Err, Option, Result}
+use Rattle.std.specs.Prelude.{true, false, Some, None, Ok, Err, Option, Result, if◌then◌else◌}
 use Rattle.legs.specs.declared.position.Position.{Position}
 use Rattle.legs.specs.declared.read_refusal.ReadRefusal.{ReadRefusal}
 use Rattle.legs.specs.Combined.{combined}
@@ -34,7 +34,7 @@ use Rattle.state.specs.Service.{reported}
 use Rattle.rules.specs.Starting.{start}
 
 abbrev pub reading_in : Call → Option Reading
-reading_in o = cond (same_kind o.kind Sense) (Some (Word o.a o.b)) (cond (same_kind o.kind Tick) (Some Pass) None)
+reading_in o = if same_kind o.kind Sense then Some (Word o.a o.b) else if same_kind o.kind Tick then Some Pass else None
 
 abbrev pub reading_by : Option Service → Call → Option Reading
 reading_by None o = None
@@ -61,7 +61,7 @@ decide_in Sense v o s read legs = sensed read v s legs
 decide_in Tick v o s read legs = judge s v true legs
 
 abbrev pub decide_out : Call → State → Snapshot → Decision
-decide_out o s legs = cond (same_kind o.kind StartService) (start s o.a o.b legs.more) (refused OutOfService s)
+decide_out o s legs = if same_kind o.kind StartService then start s o.a o.b legs.more else refused OutOfService s
 
 abbrev pub decide_by : Option Service → Call → State → Result Unit ReadRefusal → Snapshot → Decision
 decide_by None o s read legs = decide_out o s legs

@@ -8,7 +8,7 @@
 -- in_order         two messages, the first place filled before the second
 -- conclude         the decision for a course, where the legs are at this position as it is reported
 -- judge            the whole, for a snapshot of the legs: those that have arrived are switched off, then what the course commands
-use Rattle.std.specs.Prelude.{ℕ, ◌+◌, Bool, cond, ◌&&◌, ◌||◌, Some, None, Option, ◌==◌, nat_le}
+use Rattle.std.specs.Prelude.{ℕ, ◌+◌, Bool, ◌&&◌, ◌||◌, Some, None, Option, ◌==◌, nat_le, if◌then◌else◌}
 use Rattle.legs.specs.declared.position.Position.{Position}
 use Rattle.legs.specs.Combined.{combined, same_position}
 use Rattle.legs.specs.Ends.{position_at}
@@ -36,11 +36,11 @@ use Rattle.state.specs.State.{is_up, news}
 use Rattle.rules.specs.Switches.{legs_arrived}
 
 abbrev pub aged : Movement → ℕ → Course
-aged m limit = cond (nat_le limit (m.elapsed + 1)) TimedOut (Open (record { end = m.end; elapsed = m.elapsed + 1 }))
+aged m limit = if nat_le limit (m.elapsed + 1) then TimedOut else Open (record m { elapsed = m.elapsed + 1 })
 
 abbrev pub course_of : Option Movement → ℕ → Bool → Position → Course
 course_of None limit ticking p = Closed
-course_of (Some m) limit ticking p = cond (same_position p (position_at m.end)) Arrived (cond ticking (aged m limit) (Open m))
+course_of (Some m) limit ticking p = if same_position p (position_at m.end) then Arrived else if ticking then aged m limit else Open m
 
 abbrev pub course_verdict : Course → Verdict
 course_verdict Closed = verdict.Plain
@@ -67,16 +67,16 @@ abbrev pub tells : State → Course → Position → Bool
 tells s c p = is_up s && (news p s.told || ends_in verdict.Arrived c)
 
 abbrev pub timeout_message : Course → Profile → Bool → Message
-timeout_message c f up = cond (ends_in verdict.TimedOut c && (up && profile_number f == profile_number Extended)) Timeout Nothing
+timeout_message c f up = if ends_in verdict.TimedOut c && (up && profile_number f == profile_number Extended) then Timeout else Nothing
 
 abbrev pub in_order : Message → Message → Message × Message
-in_order first second = cond (message_code first == message_code Nothing) (second, Nothing) (first, second)
+in_order first second = if message_code first == message_code Nothing then (second, Nothing) else (first, second)
 
 abbrev pub conclude : State → Profile → Course → Position → Switches → Decision
 conclude s f c p off =
-    let messages = in_order (cond (tells s c p) (position_message p) Nothing) (timeout_message c f (is_up s)) in
+    let messages = in_order (if tells s c p then position_message p else Nothing) (timeout_message c f (is_up s)) in
     record {
-      state = record { service = s.service; connection = s.connection; told = cond (tells s c p) (Some p) s.told; movement = course_movement c };
+      state = record s { told = if tells s c p then Some p else s.told; movement = course_movement c };
       answer = (course_verdict c, messages.0, messages.1);
       commands = record { off = off; then = course_command c };
     }

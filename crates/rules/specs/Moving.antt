@@ -5,7 +5,7 @@
 -- move_to        the order to an end, by whether a movement is open, where the legs together show this
 -- to_end         the order, if it names an end
 -- order          the whole call, by its argument
-use Rattle.std.specs.Prelude.{ℕ, Bool, cond, Some, None, Option, ◌==◌}
+use Rattle.std.specs.Prelude.{ℕ, Bool, Some, None, Option, ◌==◌, if◌then◌else◌}
 use Rattle.legs.specs.declared.end.End.{End}
 use Rattle.legs.specs.declared.position.Position.{Position}
 use Rattle.legs.specs.Combined.{same_position}
@@ -33,12 +33,12 @@ abbrev pub already_there : State → Position → Decision
 already_there s p = answered (with_told p s) (AlreadyThere, position_message p, Nothing) None
 
 abbrev pub move_to : State → Option Movement → End → Position → Decision
-move_to s None e p = cond (same_position p (position_at e)) (already_there s p) (set_off s Opened e)
-move_to s (Some m) e p = cond (same_end m.end e) (answered s (silent AlreadyMoving) None) (set_off s Reversed e)
+move_to s None e p = if same_position p (position_at e) then already_there s p else set_off s Opened e
+move_to s (Some m) e p = if same_end m.end e then answered s (silent AlreadyMoving) None else set_off s Reversed e
 
 abbrev pub to_end : State → Option End → Position → Decision
 to_end s None p = refused NoSuchEnd s
 to_end s (Some e) p = move_to s s.movement e p
 
 abbrev pub order : State → ℕ → Position → Decision
-order s a p = cond (is_up s) (to_end s (end_asked a) p) (refused WrongConnection s)
+order s a p = if is_up s then to_end s (end_asked a) p else refused WrongConnection s

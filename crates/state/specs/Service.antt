@@ -6,7 +6,7 @@
 -- service_of       a service with this limit, if it can be used, and this profile, if there is one
 -- service_asked    what the two arguments of a start ask for, if they can be used: a limit of 1 to 600 ticks, and a profile
 -- reported         a position as a profile reports it: trailed is no end position in profile 0
-use Rattle.std.specs.Prelude.{ℕ, cond, ◌&&◌, Some, None, Option, ◌==◌, nat_le}
+use Rattle.std.specs.Prelude.{ℕ, ◌&&◌, Some, None, Option, ◌==◌, nat_le, if◌then◌else◌}
 use Rattle.legs.specs.declared.position.Position.{Position}
 use Rattle.legs.specs.declared.position.Position.TheVariants.{NoEndPosition, Trailed}
 use Rattle.legs.specs.Combined.{same_position}
@@ -23,18 +23,18 @@ profile_number Basic = 0
 profile_number Extended = 1
 
 abbrev pub profile_asked : ℕ → Option Profile
-profile_asked n = cond (n == profile_number Basic) (Some Basic) (cond (n == profile_number Extended) (Some Extended) None)
+profile_asked n = if n == profile_number Basic then Some Basic else if n == profile_number Extended then Some Extended else None
 
 abbrev pub no_such_profile : NoSuchProfile
 no_such_profile = record {}
 
 abbrev pub service_of : ℕ → Option Profile → Option Service
 service_of a None = None
-service_of a (Some p) = cond (nat_le 1 a && nat_le a longest_limit) (Some (record { limit = a; profile = p })) None
+service_of a (Some p) = if nat_le 1 a && nat_le a longest_limit then Some (record { limit = a; profile = p }) else None
 
 abbrev pub service_asked : ℕ → ℕ → Option Service
 service_asked a b = service_of a (profile_asked b)
 
 abbrev pub reported : Profile → Position → Position
-reported Basic p = cond (same_position p Trailed) NoEndPosition p
+reported Basic p = if same_position p Trailed then NoEndPosition else p
 reported Extended p = p

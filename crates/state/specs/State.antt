@@ -33,13 +33,13 @@ news p None = true
 news p (Some q) = not (same_position q p)
 
 abbrev pub with_service : Service → State → State
-with_service v s = record { service = Some v; connection = s.connection; told = s.told; movement = s.movement }
+with_service v s = record s { service = Some v }
 
 abbrev pub with_connection : Connection → State → State
-with_connection c s = record { service = s.service; connection = c; told = s.told; movement = s.movement }
+with_connection c s = record s { connection = c }
 
 abbrev pub with_told : Position → State → State
-with_told p s = record { service = s.service; connection = s.connection; told = Some p; movement = s.movement }
+with_told p s = record s { told = Some p }
 
 abbrev pub with_movement : Option Movement → State → State
-with_movement m s = record { service = s.service; connection = s.connection; told = s.told; movement = m }
+with_movement m s = record s { movement = m }
