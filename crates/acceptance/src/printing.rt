@@ -1,6 +1,6 @@
 // Lines for people to read.
 use factory::{CROSSED_LEG, CROSSED_TRAVEL, all_off};
-use legs::{End, ReadRefusal};
+use legs::{End, Numbered, ReadRefusal};
 use machine::{KNOWN_LEGS, Machine, combined_position};
 use std::io;
 

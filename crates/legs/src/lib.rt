@@ -4,6 +4,7 @@
 mod drive;
 mod end;
 mod lettered;
+mod numbered;
 mod position;
 mod read_refusal;
 mod sided;
@@ -11,6 +12,7 @@ mod sided;
 pub use drive::Drive;
 pub use end::{End, NoSuchEnd};
 pub use lettered::Lettered;
+pub use numbered::Numbered;
 pub use position::Position;
 pub use read_refusal::ReadRefusal;
 pub use sided::Sided;

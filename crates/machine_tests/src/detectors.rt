@@ -4,7 +4,7 @@ ghost use Rattle.makes.specs.Coded.{new_coded};
 ghost use Rattle.makes.specs.Wired.{new_wired};
 
 use crate::checks::{misses, refuses, shows};
-use legs::{Drive, Position, ReadRefusal};
+use legs::{Drive, Numbered, Position, ReadRefusal};
 use machine::Machine;
 use makes::{Coded, Wired};
 

@@ -15,6 +15,7 @@ fn leg_status<M: Machine>(machine: &M, leg: u16) -> LegStatus
     }
 }
 
+#[tactic(auto, using(crate::proofs::Seen::leg_missing, crate::proofs::Seen::leg_there))]
 fn known_leg<M: Machine>(machine: &M, leg: u16) -> Option<LegStatus>
     ensures { result ≡ known_leg (M.meaning machine.now) leg }
 {

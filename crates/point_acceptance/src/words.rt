@@ -1,4 +1,5 @@
 // What calls, verdicts and messages are called when people read them.
+use legs::Numbered;
 use records::{Call, CallKind, Message, Verdict};
 use std::fmt;
 

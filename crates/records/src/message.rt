@@ -1,8 +1,9 @@
 // What a point tells the interlocking: a plain code, so that an answer can be kept and compared as it is.
 ghost use Rattle.std.specs.Prelude.{◌≡◌, Some};
 ghost use Rattle.records.specs.Messages.{message_code, message_text, position_message};
+ghost use Rattle.std.proofs.Common.{rules};
 
-use legs::Position;
+use legs::{Numbered, Position};
 use std::fmt;
 
 #[derive(Clone, Copy, PartialEq, Eq, Debug)]
@@ -20,13 +21,6 @@ pub enum Message {
 }
 
 impl Message {
-    // The number of this code.
-    pub fn code(self) -> u8
-        ensures { result ≡ message_code self }
-    {
-        self as u8
-    }
-
     // What stands for this message in every output.
     pub fn text(self) -> &'static str
         ensures { result.now ≡ message_text self }
@@ -43,6 +37,16 @@ impl Message {
             Message::PositionTrailed => "PT",
             Message::Timeout => "TO",
         }
+    }
+}
+
+impl Numbered for Message {
+    ghost number_of = { message_code };
+
+    ghost told_apart = { Prim.search rules };
+
+    fn number(self) -> u8 {
+        self as u8
     }
 }
 

@@ -1,11 +1,11 @@
 // Why a point refuses a call.
 ghost use Rattle.std.specs.Prelude.{◌≡◌};
 ghost use Rattle.records.specs.Refusals.{read_refused, refusal_number};
+ghost use Rattle.std.proofs.Common.{rules};
 ghost use Rattle.records.specs.declared.refusal.Refusal.TheVariants as refusal;
 
-use legs::{NoSuchEnd, ReadRefusal};
+use legs::{NoSuchEnd, Numbered, ReadRefusal};
 
-// Each with the number by which it is known.
 #[derive(Clone, Copy, PartialEq, Eq, Debug)]
 pub enum Refusal {
     OutOfService = 1,
@@ -18,10 +18,12 @@ pub enum Refusal {
     UnreadableWord = 8,
 }
 
-impl Refusal {
-    pub fn number(self) -> u8
-        ensures { result ≡ refusal_number self }
-    {
+impl Numbered for Refusal {
+    ghost number_of = { refusal_number };
+
+    ghost told_apart = { Prim.search rules };
+
+    fn number(self) -> u8 {
         self as u8
     }
 }

@@ -4,7 +4,7 @@ ghost use Rattle.records.specs.Verdicts.{verdict_letter};
 ghost use Rattle.std.proofs.Common.{rules};
 
 use crate::refusal::Refusal;
-use legs::Lettered;
+use legs::{Lettered, Numbered};
 use std::fmt;
 
 #[derive(Clone, Copy, PartialEq, Eq, Debug)]
