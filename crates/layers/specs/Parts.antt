@@ -1,5 +1,5 @@
 -- Legs of two lists in a row, by the part that has them; and that a pair keeps the laws.
-use Rattle.std.specs.Prelude.{◌≡◌, ℕ, ◌-◌, ◌<◌, ◌≤◌, List, ◌++◌, map, length, Some, None, Option, refl}
+use Rattle.std.specs.Prelude.{◌≡◌, ℕ, ◌+◌, ◌-◌, ◌<◌, ◌≤◌, min, List, ◌++◌, map, length, Some, None, Option, refl}
 use Rattle.std.proofs.Common.{⊎_elim, sym, ap, ap₂, ◌∙◌, arith, length-append}
 use Rattle.std.proofs.lemmas.List.{map-append}
 use Rattle.std.proofs.lemmas.Bool.{cases_lt, lt-ltb, le-ltb}
@@ -66,6 +66,10 @@ change_by_part f m n k =
           let near : k - length m < known_legs = omega arith in
           rw (part_behind m k h i, lt-ltb k known_legs h, lt-ltb (k - length m) known_legs near) (at_index_back f m n k i)
     ]
+
+-- the legs of both, counted
+pub count_both : (m n : List Leg) → min (count_of m + count_of n) 6 ≡ count_of (m ++ n)
+count_both m n = rw length-append (omega arith)
 
 module _ {M N : Type 0} {meaning₁ : M → List Leg} {meaning₂ : N → List Leg} {does₁ : M → Action → M → Type 0} {does₂ : N → Action → N → Type 0}
     (kept₁ : Laws meaning₁ does₁) (kept₂ : Laws meaning₂ does₂) where
