@@ -10,11 +10,11 @@ fn switch_off_if_arrived<M: Machine>(machine: &mut M, leg: u16) -> bool
     ensures answer { result ≡ arrived_at (M.meaning machine.old) leg }
     ensures legs { M.meaning machine.new ≡ off_if_arrived leg (M.meaning machine.old) }
 {
-    if machine.driven(leg).has_reached(machine.show(leg)) {
+    let arrived = machine.driven(leg).has_reached(machine.show(leg));
+    if arrived {
         machine.switch_off(leg);
-        return true;
     }
-    false
+    arrived
 }
 
 // Switches off the legs that have arrived, and answers which.

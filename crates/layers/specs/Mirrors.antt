@@ -15,7 +15,7 @@ use Rattle.machine.specs.LegNumbersLemmas.{leg_at_map, at_leg_map}
 use Rattle.layers.specs.Crossed.{crossed_legs, crossed_action, crossed_does}
 
 -- two things done to every leg, the one after the other or the other after the one
-map_swap : (h f g : Leg → Leg) → ((l : Leg) → h (f l) ≡ g (h l)) → (m : List Leg) → map h (map f m) ≡ map g (map h m)
+pub map_swap : (h f g : Leg → Leg) → ((l : Leg) → h (f l) ≡ g (h l)) → (m : List Leg) → map h (map f m) ≡ map g (map h m)
 map_swap h f g same [] = refl
 map_swap h f g same (l ∷ m) = rw (same l) (ap (λ n. g (h l) ∷ n) (map_swap h f g same m))
 
@@ -60,7 +60,7 @@ pub frame_mirrored : (m : List Leg) → map frame (map mirrored m) ≡ map mirro
 frame_mirrored m = map_swap frame mirrored mirrored (λ l. refl) m
 
 -- an effect below, seen crossed
-effect_mirrored : (a : Action) (m n : List Leg) → Effect (crossed_action a) m n → Effect a (map mirrored m) (map mirrored n)
+pub effect_mirrored : (a : Action) (m n : List Leg) → Effect (crossed_action a) m n → Effect a (map mirrored m) (map mirrored n)
 effect_mirrored (Driving e) m n h = rw h (drive_to_mirrored e m)
 effect_mirrored Halting m n h = rw h (halted_mirrored m)
 effect_mirrored (SwitchingOff k) m n h = rw h (off_at_mirrored k m)

@@ -27,21 +27,21 @@ change_in f (Some (First k)) m n = at_leg f k m ++ n
 change_in f (Some (Second k)) m n = m ++ at_leg f k n
 change_in f None m n = m ++ n
 
-data Where (m : List Leg) (k : ℕ) : Type 0 where
+pub data Where (m : List Leg) (k : ℕ) : Type 0 where
   missing : known_legs ≤ k → Where m k
   in_front : k < known_legs → k < length m → Where m k
   behind : k < known_legs → length m ≤ k → Where m k
 
-where_is : (m : List Leg) (k : ℕ) → Where m k
+pub where_is : (m : List Leg) (k : ℕ) → Where m k
 where_is m k = ⊎_elim (λ known. ⊎_elim (in_front known) (behind known) (cases_lt k (length m))) missing (cases_lt k known_legs)
 
-part_missing : (m : List Leg) (k : ℕ) → known_legs ≤ k → part_of (count_of m) k ≡ None
+pub part_missing : (m : List Leg) (k : ℕ) → known_legs ≤ k → part_of (count_of m) k ≡ None
 part_missing m k h = rw (le-ltb k known_legs h) refl
 
-part_front : (m : List Leg) (k : ℕ) → k < known_legs → k < length m → part_of (count_of m) k ≡ Some (First k)
+pub part_front : (m : List Leg) (k : ℕ) → k < known_legs → k < length m → part_of (count_of m) k ≡ Some (First k)
 part_front m k h i = let below : k < count_of m = omega arith in rw (lt-ltb k known_legs h, lt-ltb k (count_of m) below) refl
 
-part_behind : (m : List Leg) (k : ℕ) → k < known_legs → length m ≤ k → part_of (count_of m) k ≡ Some (Second (k - length m))
+pub part_behind : (m : List Leg) (k : ℕ) → k < known_legs → length m ≤ k → part_of (count_of m) k ≡ Some (Second (k - length m))
 part_behind m k h i =
     let above : count_of m ≤ k = omega arith in
     let all : k - count_of m ≡ k - length m = omega arith in
@@ -76,12 +76,12 @@ module _ {M N : Type 0} {meaning₁ : M → List Leg} {meaning₂ : N → List L
   abbrev legs : Pair M N → List Leg
   legs x = pair_legs meaning₁ meaning₂ x
 
-  off_in : (p : Option Part) (x y : Pair M N) → OnePart does₁ does₂ p SwitchingOff x y → legs y ≡ change_in (with_drive Off) p (meaning₁ x.first) (meaning₂ x.second)
+  pub off_in : (p : Option Part) (x y : Pair M N) → OnePart does₁ does₂ p SwitchingOff x y → legs y ≡ change_in (with_drive Off) p (meaning₁ x.first) (meaning₂ x.second)
   off_in (Some (First k)) x y h = ap₂ ◌++◌ (kept₁.effect x.first (SwitchingOff k) y.first h.0) (ap meaning₂ h.1)
   off_in (Some (Second k)) x y h = ap₂ ◌++◌ (ap meaning₁ h.1) (kept₂.effect x.second (SwitchingOff k) y.second h.0)
   off_in None x y h = ap legs h
 
-  read_in : (p : Option Part) (w : ℕ) (x y : Pair M N) → OnePart does₁ does₂ p (λ k. ReadingWord k w) x y → (v : Position) × (legs y ≡ change_in (with_position v) p (meaning₁ x.first) (meaning₂ x.second))
+  pub read_in : (p : Option Part) (w : ℕ) (x y : Pair M N) → OnePart does₁ does₂ p (λ k. ReadingWord k w) x y → (v : Position) × (legs y ≡ change_in (with_position v) p (meaning₁ x.first) (meaning₂ x.second))
   read_in (Some (First k)) w x y h =
       let after = kept₁.effect x.first (ReadingWord k w) y.first h.0 in
       (after.0, ap₂ ◌++◌ after.1 (ap meaning₂ h.1))
@@ -94,7 +94,7 @@ module _ {M N : Type 0} {meaning₁ : M → List Leg} {meaning₂ : N → List L
   all_legs : (f : Leg → Leg) (x y : Pair M N) → meaning₁ y.first ≡ map f (meaning₁ x.first) → meaning₂ y.second ≡ map f (meaning₂ x.second) → legs y ≡ map f (legs x)
   all_legs f x y h i = ap₂ ◌++◌ h i ∙ sym (map-append f (meaning₁ x.first) (meaning₂ x.second))
 
-  pair_effect : (x : Pair M N) (a : Action) (y : Pair M N) → pair_does meaning₁ does₁ does₂ x a y → Effect a (legs x) (legs y)
+  pub pair_effect : (x : Pair M N) (a : Action) (y : Pair M N) → pair_does meaning₁ does₁ does₂ x a y → Effect a (legs x) (legs y)
   pair_effect x (Driving e) y h = all_legs (drive_leg e) x y (kept₁.effect x.first (Driving e) y.first h.0) (kept₂.effect x.second (Driving e) y.second h.1)
   pair_effect x Halting y h = all_legs (with_drive Off) x y (kept₁.effect x.first Halting y.first h.0) (kept₂.effect x.second Halting y.second h.1)
   pair_effect x (SwitchingOff k) y h =

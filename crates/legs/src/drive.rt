@@ -23,10 +23,10 @@ impl Drive {
     pub fn has_reached(self, shown: Position) -> bool
         ensures { result ≡ reached self shown }
     {
-        match (self, shown) {
-            (Drive::Left, Position::Left) | (Drive::Right, Position::Right) => true,
-            _ => false,
-        }
+        matches!(
+            (self, shown),
+            (Drive::Left, Position::Left) | (Drive::Right, Position::Right)
+        )
     }
 }
 

@@ -49,7 +49,7 @@ pub at_leg_map : (h f g : Leg → Leg) → ((l : Leg) → h (f l) ≡ g (h l)) �
 at_leg_map h f g same k m = rw (cond_map (map h) (nat_lt k known_legs) (at_index f k m) m, at_index_map h f g same k m) refl
 
 -- what the change of one leg keeps of every leg
-at_index_keeps : {X Y : Type 0} (q : X → Y) (f : X → X) → ((x : X) → q (f x) ≡ q x) → (k : ℕ) (xs : List X) → map q (at_index f k xs) ≡ map q xs
+pub at_index_keeps : {X Y : Type 0} (q : X → Y) (f : X → X) → ((x : X) → q (f x) ≡ q x) → (k : ℕ) (xs : List X) → map q (at_index f k xs) ≡ map q xs
 at_index_keeps q f same k [] = refl
 at_index_keeps q f same zero (x ∷ xs) = ap (λ y. y ∷ map q xs) (same x)
 at_index_keeps q f same (suc k) (x ∷ xs) = ap (λ ys. q x ∷ ys) (at_index_keeps q f same k xs)

@@ -70,11 +70,10 @@ impl<D: Decoder> SingleLeg for Detected<D> {
     }
 
     fn take_word(&mut self, word: u16) -> Result<(), ReadRefusal> {
-        let position = self
+        self.position = self
             .decoder
             .decode(word)
             .ok_or(ReadRefusal::UnreadableWord)?;
-        self.position = position;
         Ok(())
     }
 

@@ -13,9 +13,9 @@ use runs::run_new;
 fn main(rt: HostRuntime) -> anyhow::Result<()> {
     let heap = rt.alloc();
     let calls = test_calls(heap)?;
-    let Ok(ran) = run_new(heap, five_motors(), &calls) else {
-        return Err(anyhow!("no memory for the records"));
-    };
+    let ran = run_new(heap, five_motors(), &calls).map_err(|_none| anyhow!(
+        "no memory for the records"
+    ))?;
     print_heading(&rt)?;
     for (number, entry) in ran.entries.iter().enumerate() {
         print_entry(&rt, number, *entry)?;

@@ -1,5 +1,5 @@
 // What calls, verdicts and messages are called when people read them.
-use legs::Numbered;
+use legs::{End, Numbered};
 use records::{Call, CallKind, Message, Verdict};
 use std::fmt;
 
@@ -15,27 +15,37 @@ impl fmt::Display for Words<Call> {
             CallKind::ReportStatus => f.write_str("status report"),
             CallKind::FinishReport => f.write_str("end of the report"),
             CallKind::LoseConnection => f.write_str("connection lost"),
-            CallKind::MovePoint if a == 1 => f.write_str("order: left"),
-            CallKind::MovePoint if a == 2 => f.write_str("order: right"),
-            CallKind::MovePoint => write!(f, "order: {a}"),
+            CallKind::MovePoint => match End::try_from(a) {
+                Ok(end) => write!(f, "order: {}", Words(end)),
+                Err(_none) => write!(f, "order: {a}"),
+            },
             CallKind::Sense => write!(f, "word {b} for leg {a}"),
             CallKind::Tick => f.write_str("tick"),
         }
     }
 }
 
-impl fmt::Display for Words<Verdict> {
+impl fmt::Display for Words<End> {
     fn fmt<W: fmt::Write>(&self, f: &mut fmt::Formatter<W>) -> fmt::Result {
         f.write_str(match self.0 {
-            Verdict::Plain => "",
-            Verdict::AlreadyThere => "already there",
-            Verdict::Opened => "movement opened",
-            Verdict::AlreadyMoving => "already moving there",
-            Verdict::Reversed => "movement reversed",
-            Verdict::Arrived => "arrived",
-            Verdict::TimedOut => "timed out",
-            Verdict::Refused(refusal) => return write!(f, "refused, {}", refusal.number()),
+            End::Left => "left",
+            End::Right => "right",
         })
+    }
+}
+
+impl fmt::Display for Words<Verdict> {
+    fn fmt<W: fmt::Write>(&self, f: &mut fmt::Formatter<W>) -> fmt::Result {
+        match self.0 {
+            Verdict::Plain => Ok(()),
+            Verdict::AlreadyThere => f.write_str("already there"),
+            Verdict::Opened => f.write_str("movement opened"),
+            Verdict::AlreadyMoving => f.write_str("already moving there"),
+            Verdict::Reversed => f.write_str("movement reversed"),
+            Verdict::Arrived => f.write_str("arrived"),
+            Verdict::TimedOut => f.write_str("timed out"),
+            Verdict::Refused(refusal) => write!(f, "refused, {}", refusal.number()),
+        }
     }
 }
 

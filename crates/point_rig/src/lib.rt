@@ -7,4 +7,5 @@ mod rigging;
 
 pub use calling::test_calls;
 pub use ending::{Ending, endings};
+pub use factory::Rig;
 pub use rigging::five_motors;

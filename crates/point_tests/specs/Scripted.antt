@@ -26,7 +26,7 @@ abbrev pub scripted_stepped : Scripted → Scripted
 scripted_stepped x = record { shown = x.second; second = x.third; third = x.fourth; fourth = x.fourth; drive = x.drive }
 
 abbrev pub scripted_driving : Drive → Scripted → Scripted
-scripted_driving d x = record { shown = x.shown; second = x.second; third = x.third; fourth = x.fourth; drive = d }
+scripted_driving d x = record x { drive = d }
 
 abbrev pub scripted_reading : ℕ → Scripted → Scripted
 scripted_reading w x = scripted_stepped x

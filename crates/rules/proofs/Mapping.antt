@@ -1,6 +1,6 @@
 -- What an array's `map` makes, where each call of the closure changes none of its captures and gives the value of a function.
 use Rattle.std.proofs.Common.{◌≡◌, ℕ, zero, suc, ◌+◌, ◌<◌, ◌≤◌, List, map, length, slice_index_or, sym, ap, ◌∙◌, subst, ⊎_elim, refl, arith}
-use lib.ListN.{length-map}
+use Rattle.std.proofs.lemmas.List.{length-map}
 use Rattle.std.proofs.lemmas.Bool.{cases_lt}
 use Rattle.std.proofs.lemmas.List.{ext_get_or, get_or-map}
 use Rattle.std.specs.Array.{IsMapOf, MapsFrom}

@@ -1,11 +1,11 @@
 -- What the start of service fixes.
--- longest_limit    the longest limit that can be asked for, in ticks
--- profile_number   the number of a profile: 0 reports neither trailed positions nor timeouts, 1 reports both
--- profile_asked    the profile with a number, if there is one
--- no_such_profile what is said of a number that no profile has
--- service_of       a service with this limit, if it can be used, and this profile, if there is one
--- service_asked    what the two arguments of a start ask for, if they can be used: a limit of 1 to 600 ticks, and a profile
--- reported         a position as a profile reports it: trailed is no end position in profile 0
+-- longest_limit     the longest limit that can be asked for, in ticks
+-- profile_number    the number of a profile: 0 reports neither trailed positions nor timeouts, 1 reports both
+-- profile_asked     the profile with a number, if there is one
+-- no_such_profile  what is said of a number that no profile has
+-- service_of        a service with this limit, if it can be used, and this profile, if there is one
+-- service_asked     what the two arguments of a start ask for, if they can be used: a limit of 1 to 600 ticks, and a profile
+-- reported          a position as a profile reports it: trailed is no end position in profile 0
 use Rattle.std.specs.Prelude.{ℕ, ◌&&◌, Some, None, Option, ◌==◌, nat_le, if◌then◌else◌}
 use Rattle.legs.specs.declared.position.Position.{Position}
 use Rattle.legs.specs.declared.position.Position.TheVariants.{NoEndPosition, Trailed}
