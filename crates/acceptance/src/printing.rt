@@ -1,5 +1,5 @@
 // Lines for people to read.
-use factory::{CROSSED_LEG, CROSSED_TRAVEL, all_off};
+use factory::{CROSSED_LEG, CROSSED_TRAVEL, all_off, end_name};
 use legs::{End, Numbered, ReadRefusal};
 use machine::{KNOWN_LEGS, Machine, combined_position};
 use std::io;
@@ -10,13 +10,6 @@ pub fn print_heading(rt: &impl Print) -> io::Result<()> {
     println!(rt; "Each leg is shown as position/drive: L left, R right, N no end position, - off")?;
     println!(rt; "")?;
     println!(rt; "          leg 0  leg 1  leg 2  leg 3  leg 4  together")
-}
-
-fn end_name(end: End) -> &'static str {
-    match end {
-        End::Left => "left",
-        End::Right => "right",
-    }
 }
 
 pub fn print_word(rt: &impl Print, answer: Result<(), ReadRefusal>) -> io::Result<()> {

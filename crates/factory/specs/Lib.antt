@@ -1,3 +1,4 @@
 pub mod Rigging
 pub mod Switching
 pub mod Throwing
+pub mod Naming

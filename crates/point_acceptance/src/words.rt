@@ -1,4 +1,5 @@
 // What calls, verdicts and messages are called when people read them.
+use factory::end_name;
 use legs::{End, Numbered};
 use records::{Call, CallKind, Message, Verdict};
 use std::fmt;
@@ -16,21 +17,12 @@ impl fmt::Display for Words<Call> {
             CallKind::FinishReport => f.write_str("end of the report"),
             CallKind::LoseConnection => f.write_str("connection lost"),
             CallKind::MovePoint => match End::try_from(a) {
-                Ok(end) => write!(f, "order: {}", Words(end)),
+                Ok(end) => write!(f, "order: {}", end_name(end)),
                 Err(_none) => write!(f, "order: {a}"),
             },
             CallKind::Sense => write!(f, "word {b} for leg {a}"),
             CallKind::Tick => f.write_str("tick"),
         }
-    }
-}
-
-impl fmt::Display for Words<End> {
-    fn fmt<W: fmt::Write>(&self, f: &mut fmt::Formatter<W>) -> fmt::Result {
-        f.write_str(match self.0 {
-            End::Left => "left",
-            End::Right => "right",
-        })
     }
 }
 
