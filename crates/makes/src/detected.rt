@@ -1,7 +1,7 @@
 // A leg that shows what its detector last said. The makes of this kind differ in how the detector says it.
 ghost use Rattle.std.specs.Prelude.{◌≡◌, ℕ, Option};
 ghost use Rattle.legs.specs.declared.position.Position.{Position};
-ghost use Rattle.makes.specs.Detected.{detected_driving, detected_reading, detected_leg, detected_passing, new_detected};
+ghost use Rattle.makes.specs.Detected.{detected_driving, detected_reading, detected_leg, detected_passing, new_detected, NewByDefault};
 ghost use Rattle.std.proofs.Common.{rules};
 
 use legs::{Drive, Position, ReadRefusal};
@@ -39,8 +39,7 @@ impl<D> Detected<D> {
 impl<D: Default> Detected<D> {
     // The same with the decoder of its kind.
     pub fn new() -> Detected<D>
-        ensures decoder { D.is_default result.decoder }
-        ensures start { result ≡ new_detected result.decoder }
+        ensures { NewByDefault D.is_default result }
     {
         Detected::by(D::default())
     }
