@@ -10,7 +10,7 @@ use Rattle.machine.specs.Legs.{Leg, positions}
 use Rattle.machine.specs.LegNumbers.{count_of, known_legs, known_part, leg_at, shown_at, shown_of}
 
 -- the first leg is a group of one
-first_shown : (m : List Leg) → 0 < length m → shown_at m 0 ≡ combined (positions (take 1 m))
+pub first_shown : (m : List Leg) → 0 < length m → shown_at m 0 ≡ combined (positions (take 1 m))
 first_shown [] some = absurd (omega arith)
 first_shown (l ∷ m) some = alone_shows l.shows
 
@@ -18,7 +18,7 @@ first_shown (l ∷ m) some = alone_shows l.shows
 pub known_leg : (m : List Leg) (k : ℕ) (d : Leg) → k < length m → k < known_legs → leg_at m k ≡ Some (get_or m k d)
 known_leg m k d within known = rw (lt-ltb k known_legs known) (slice_get-get_or m k d within)
 
-next_shown : (m : List Leg) (k : ℕ) → 0 < k → k < length m → k < known_legs → joined (combined (positions (take k m))) (shown_at m k) ≡ combined (positions (take (k + 1) m))
+pub next_shown : (m : List Leg) (k : ℕ) → 0 < k → k < length m → k < known_legs → joined (combined (positions (take k m))) (shown_at m k) ≡ combined (positions (take (k + 1) m))
 next_shown [] k after within known = absurd (omega arith)
 next_shown (l ∷ m) zero after within known = absurd (omega arith)
 next_shown (l ∷ m) (suc k) after within known =
@@ -36,7 +36,7 @@ more_shown m k (suc n) after within known =
     ∙ (more_shown m (k + 1) n (omega arith) (omega arith) (omega arith) ∙ ap (λ i. combined (positions (take i m))) count)
 
 -- as many legs as there are, but at most five, are the legs that callers know
-known_taken : (m : List Leg) (k : ℕ) → k ≡ min (length m) known_legs → take k m ≡ known_part m
+pub known_taken : (m : List Leg) (k : ℕ) → k ≡ min (length m) known_legs → take k m ≡ known_part m
 known_taken m k e =
     ⊎_elim
     (λ few. take_all k m (omega (arith, e)) ∙ sym (take_all known_legs m (omega arith)))

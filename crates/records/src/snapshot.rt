@@ -44,7 +44,7 @@ impl Snapshot {
     pub fn combined_position(self) -> Position
         ensures { result ≡ combined (shown_in self) }
     {
-        self.others.into_iter().fold(self.first.shows, join_leg)
+        self.others.iter().copied().fold(self.first.shows, join_leg)
     }
 }
 

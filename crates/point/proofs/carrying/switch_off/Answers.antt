@@ -7,7 +7,7 @@ use Rattle.point.proofs.carrying.switch_off.Goals as goal
 
 pub loop-leg-preserved : goal.loop-leg-preserved
 loop-leg-preserved g c =
-    one_more g.M.Machine.does (λ leg. (leg.0, leg.1.now)) c.loop-leg.yielded (c.in-Some.leg, c.in-Some.off) _ c.loop-leg.machine c.switch_off_if.new.machine c.loop-leg.invariant c.switch_off_if.ensures
+    one_more g.M.Machine.does (λ leg. (leg.0, leg.1.now)) c.loop-leg.yielded (c.in-Some.leg, c.in-Some.off) _ c.loop-leg.machine c.switch_off_if.new.machine c.loop-leg.invariant (search rules)
 
 pub returns : goal.returns
 returns g c =

@@ -15,4 +15,4 @@ loop-kind-preserved c =
     items_from_extend c.extend.result c.extend.ensures.ran (YieldsList-from_repeat_n (λ x y. y ≡ x) c.from.result c.new.result c.repeat_n.ensures.count c.repeat_n.ensures.item (λ y k. k)) in
     let added : after ≡ before ++ replicate c.from.result c.new.result = search rules in
     one_more_stretch test_list before after test_plan i _ within c.loop-kind.invariant
-    (added ∙ ap₂ (λ n x. before ++ replicate n x) c.from.ensures c.new.ensures)
+    (added ∙ ap₂ (λ n x. before ++ replicate n x) (search rules) c.new.ensures)
