@@ -4,6 +4,7 @@ use Rattle.point_rig.proofs.Steps.{one_more_stretch}
 use Rattle.point_rig.proofs.calling.test_calls.Goals as goal
 use Rattle.point_rig.specs.Calling.{test_list, test_plan}
 use Rattle.records.specs.declared.call.Call.{Call}
+use Rattle.records.specs.declared.call.CallKind.TheVariants.{StartService}
 
 pub loop-kind-preserved : goal.loop-kind-preserved
 loop-kind-preserved c =
@@ -14,5 +15,5 @@ loop-kind-preserved c =
     let grown =
     items_from_extend c.extend.result c.extend.ensures.ran (YieldsList-from_repeat_n (λ x y. y ≡ x) c.from.result c.new.result c.repeat_n.ensures.count c.repeat_n.ensures.item (λ y k. k)) in
     let added : after ≡ before ++ replicate c.from.result c.new.result = search rules in
-    one_more_stretch test_list before after test_plan i _ within c.loop-kind.invariant
-    (added ∙ ap₂ (λ n x. before ++ replicate n x) (search rules) c.new.ensures)
+    one_more_stretch test_list before after test_plan i (StartService, 0, 0, 0) within c.loop-kind.invariant
+    (added ∙ ap₂ (λ n x. before ++ replicate n x) (search rules) (search rules))
